@@ -15,11 +15,13 @@ use Rattle.explore_model.specs.declared.outcome.Became.{Became}
 use Rattle.explore_model.specs.declared.outcome.Fate.{Fate}
 use Rattle.explore_model.specs.declared.outcome.Outcome.{Outcome}
 use Rattle.explore_model.specs.declared.outcome.StepPlace.{StepPlace}
+use Rattle.explore_model.specs.declared.plan.Plan.{Plan}
 use Rattle.explore_model.specs.Outcomes.{End, Ends, ends_of}
 use Rattle.actor_plays.specs.declared.falls.GoneNode.{GoneNode}
 use Rattle.actor_plays.specs.Fates.{fault_fallen}
 use Rattle.actor_plays.specs.Plays.{Stage, has_fired}
 use Rattle.actor_plays.specs.Positions.{Position}
+use Rattle.actor_plays.specs.Queries.{results_in}
 
 -- what a call made: a node, or a tracker
 pub data Made : Type 0 where
@@ -115,10 +117,10 @@ unless_left left at = if left then None else Some at
 abbrev pub end_in : Position → Stage → End
 end_in p stage = record { at = unless_left (is_some stage.vanish) stage.at; made = flat_map (told_of p) stage.made }
 
--- what is told of a play that is here
-abbrev pub ends_in : Position → Ends
-ends_in p = record { actors = map (end_in p) p.stages; free = (views_of p.core).free }
+-- what is told of a play of these plans that is here
+abbrev pub ends_in : List Plan → Position → Ends
+ends_in plans p = record { actors = map (end_in p) p.stages; free = (views_of p.core).free; results = results_in plans p.stages }
 
--- a play that is here ends as the outcome says
-abbrev pub EndsSo : Position → Outcome → Type 0
-EndsSo p outcome = ends_of outcome ≡ ends_in p
+-- a play of these plans that is here ends as the outcome says
+abbrev pub EndsSo : List Plan → Position → Outcome → Type 0
+EndsSo plans p outcome = ends_of outcome ≡ ends_in plans p

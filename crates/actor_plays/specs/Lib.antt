@@ -3,4 +3,5 @@ pub mod Leaves
 pub mod Plays
 pub mod Positions
 pub mod Moves
+pub mod Queries
 pub mod Endings

@@ -7,6 +7,7 @@ mod ending;
 mod falls;
 mod passing;
 mod play;
+mod queries;
 mod vanish;
 
 pub use actor::Actor;

@@ -2,10 +2,12 @@
 use Rattle.std.proofs.Common.{ℕ, ◌≡◌, refl, ap, sym, subst, ◌∙◌, Bool, true, false, ◌||◌, ◌+◌}
 use Rattle.std.proofs.Common.{List, map, Option, Some, None, is_some, slice_get, slice_set}
 use Rattle.std.specs.Option.{option_map}
+use Rattle.sm_names.specs.declared.keys.NodeKey.{NodeKey}
+use Rattle.sm_names.specs.declared.messages.Reply.{Reply}
 use Rattle.actor_plays.specs.Leaves.{Leave}
 use Rattle.actor_plays.specs.Plays.{Stage, left, passed, stage_after}
 use Rattle.actor_plays.specs.Positions.{Asks, Calls, Goes, Leaves, PassOn, Passes, Position, Rests, Setup, left_at, may_go}
-use Rattle.alike_cores.specs.Alike.{call_renamed}
+use Rattle.alike_cores.specs.Alike.{call_renamed, reply_renamed}
 use Rattle.alike_plays.specs.Ahead.{AreAlikeAhead, GoesByEarly, ahead, ahead_of, early_in}
 use Rattle.alike_plays.specs.AlikePlays.{AreAlikePlays}
 use Rattle.alike_plays.specs.Closed.{IsSimulation}
@@ -17,7 +19,7 @@ use Rattle.alike_plays.proofs.Composing.{plays-composed}
 use Rattle.alike_plays.proofs.VanishLaws.{leaves-alike}
 use Rattle.alike_plays.proofs.Passing.{map-set_same, same_left}
 use Rattle.alike_plays.proofs.Reaching.{IsSeen, reached_seen}
-use Rattle.alike_plays.proofs.Turning.{calls_alike, leaves_alike, other_asks, pass_alike, pass_back}
+use Rattle.alike_plays.proofs.Turning.{calls_alike, leaves_alike, other_asks, pass_alike, pass_back, replies_same}
 
 module _ (setup : Setup) where
   -- ---- passes
@@ -124,8 +126,8 @@ module _ (setup : Setup) where
     caller = a.caller;
   }
 
-  -- Its call is answered.
-  calls_to : (actor : ℕ) (p new : Position) → Calls setup actor p new → Calls setup actor (ahead p) (ahead new)
+  -- its call is answered
+  abbrev calls_to : (actor : ℕ) (p new : Position) → Calls setup actor p new → Calls setup actor (ahead p) (ahead new)
   calls_to actor p new c = record {
     asks = asks_to actor p c.asks;
     reply = c.reply;
@@ -156,6 +158,16 @@ module _ (setup : Setup) where
         (ahead again) (calls_to actor one new c) (calls_to actor other again d);
     began = began_on early actor one other like new again (call_stays actor one new c) (call_stays actor other again d);
   }
+
+  -- What a reply tells whatever its names are, both tell.
+  pub replies_ahead : (early : ℕ → ℕ → Bool) (actor : ℕ) (one other new again : Position) → IsSeen one → IsSeen other →
+      AreAlikeAhead early one other → (c : Calls setup actor one new) (d : Calls setup actor other again) →
+      {A : Type 0} (f : Reply → A) →
+      ((to : NodeKey → NodeKey) (id number : ℕ → ℕ) (reply : Reply) → f (reply_renamed to id number reply) ≡ f reply) →
+      f d.reply ≡ f c.reply
+  replies_ahead early actor one other new again seen seen_too like c d f names =
+      replies_same setup actor (ahead one) (ahead other) like.alike (seen_ahead one seen) (seen_ahead other seen_too) (ahead new)
+      (ahead again) (calls_to actor one new c) (calls_to actor other again d) f names
 
   -- ---- leaving
 

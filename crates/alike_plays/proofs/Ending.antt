@@ -14,11 +14,13 @@ use Rattle.forest_store.specs.Forest.{node_at}
 use Rattle.explore_model.specs.declared.outcome.Became.{Became}
 use Rattle.explore_model.specs.declared.outcome.Fate.{Fate}
 use Rattle.explore_model.specs.declared.outcome.StepPlace.{StepPlace}
+use Rattle.explore_model.specs.declared.plan.Plan.{Plan}
 use Rattle.actor_plays.specs.Endings.{Made, became_of, birth_at, birth_in, end_in, ends_in, fate_gone, fate_in, fate_of}
 use Rattle.actor_plays.specs.Endings.{is_birth, is_node, made_by, maker_first, maker_in, step_of, told_of, unless_left}
 use Rattle.actor_plays.specs.Fates.{fault_fallen}
 use Rattle.actor_plays.specs.Plays.{Stage}
 use Rattle.actor_plays.specs.Positions.{Position}
+use Rattle.actor_plays.specs.Queries.{results_at, results_first}
 use Rattle.alike_cores.specs.Alike.{reply_renamed}
 use Rattle.alike_cores.specs.Cores.{node_undated}
 use Rattle.alike_cores.specs.Renamed.{node_renamed}
@@ -301,9 +303,16 @@ module _ (early : ℕ → ℕ → Bool) (p r : Position) (seen : IsSeen p) (like
       told : flat_map (told_of r) same.made ≡ flat_map (told_of p) stage.made
       told = made-same stage.made same.made (made_there early place p r like stage same at at_too)
 
-  -- So plays end the same that are alike.
-  pub ends-same : ends_in r ≡ ends_in p
-  ends-same = λ i. record {
+  -- So plays end the same that are alike, if their actors answer alike.
+  pub ends-same : (plans : List Plan) → ((actor : ℕ) → results_at plans r.stages actor ≡ results_at plans p.stages actor) →
+      ends_in plans r ≡ ends_in plans p
+  ends-same plans same = λ i. record {
     actors = all_same early p r like (end_in r) (end_in p) end-same i;
     free = free-alike to like.alike.id like.alike.number p.core r.core like.alike.cores i;
+    results = first (length plans) i;
   }
+    where
+      -- actor by actor
+      first : (count : ℕ) → results_first plans r.stages count ≡ results_first plans p.stages count
+      first zero = refl
+      first (suc count) = λ i. first count i ++ same count i

@@ -18,6 +18,7 @@ pub mod Ordered
 pub mod Ahead
 pub mod AheadActors
 pub mod AheadTurns
+pub mod Asked
 pub mod Falling
 pub mod FallsKnown
 pub mod EventFalls

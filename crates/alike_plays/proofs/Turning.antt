@@ -343,60 +343,69 @@ module _ (setup : Setup) (actor : ℕ) (one other : Position) where
             from (Some l) = refl
 
     module _ (seen : IsSeen one) (seen_too : IsSeen other) (new again : Position) where
-      -- Where both answer, the plays stay alike.
-      pub calls_alike : Calls setup actor one new → Calls setup actor other again → AreAlikePlays new again
-      calls_alike c d = subst (AreAlikePlays new) (λ i. record again { stages = sym d.stages i; falls = sym d.fell.falls i })
-          (subst (λ (p : Position). AreAlikePlays p (record again {
-            stages = slice_set other.stages actor (stage_after d.asks.stage d.asks.next d.asks.asked d.reply);
-            falls = other.falls ++ flat_map falls_at d.fell.marks;
-          })) (λ i. record new { stages = sym c.stages i; falls = sym c.fell.falls i })
-          (goes_alike one other alike new.core again.core c.asks.client c.asks.asked.call c.reply d.reply both actor
-          (stage_after c.asks.stage c.asks.next c.asks.asked c.reply) (stage_after d.asks.stage d.asks.next d.asks.asked d.reply)
-          (subst (AreAlikeStages (keys one other alike c.reply d.reply) (ids one other alike) (numbers one other alike)
-          (stage_after c.asks.stage c.asks.next c.asks.asked c.reply))
-          (λ i. stage_after d.asks.stage (sym named.next i) (sym named.asked i) (sym told.0 i))
-          (after-alike (keys one other alike c.reply d.reply) (ids one other alike) (numbers one other alike) c.asks.stage d.asks.stage
-          named.same (keys_kept alike.to alike.keeps (new_key c.reply) (new_key d.reply))
-          (number_kept alike.id alike.kept (one.core.events + 1) (other.core.events + 1)) c.asks.next c.asks.asked c.reply))))
-        where
-          -- what both ask for under the old names
-          old : AskAlike alike.to alike.id alike.number c.asks d.asks
-          old = asks_both alike.to alike.id alike.number alike.stages c.asks d.asks
+      module _ (c : Calls setup actor one new) (d : Calls setup actor other again) where
+        -- what both ask for under the old names
+        calls_old : AskAlike alike.to alike.id alike.number c.asks d.asks
+        calls_old = asks_both alike.to alike.id alike.number alike.stages c.asks d.asks
 
-          -- both cores answer
-          both : BothAnswer one other alike new.core again.core c.asks.client c.asks.asked.call c.reply d.reply
-          both = record {
-            history = seen.history;
-            past = seen_too.history;
-            shows = seen.shows;
-            shows_too = seen_too.shows;
-            known = seen.known;
-            known_too = seen_too.known;
-            joinless = step_joinless setup.clients c.asks.stage.known c.asks.next.step c.asks.asked c.asks.client c.reply c.asks.call;
-            old = names_old alike.to alike.id one.core other.core c.asks.asked.call (asks_known setup one seen actor c.asks)
-                (subst (λ (x : StepCall). KnownCall (λ key. given other.core.forest key ≡ true) (λ i. i ≤ other.core.events) x.call)
-                old.asked (asks_known setup other seen_too actor d.asks));
-            made = c.made;
-            made_too = subst (λ (x : StepCall). Makes other.core again.core (c.asks.client, x.call, d.reply)) old.asked
-                (subst (λ (n : ℕ). Makes other.core again.core (n, d.asks.asked.call, d.reply)) old.client d.made);
-            fell = seen.fell;
-            fell_too = seen_too.fell;
-            marks = c.fell.marks;
-            more = d.fell.marks;
-            are = c.fell.are;
-            are_too = subst (λ (x : StepCall). AreStages other.core again.core c.asks.client x.call d.reply d.fell.marks) old.asked
-                (subst (λ (n : ℕ). AreStages other.core again.core n d.asks.asked.call d.reply d.fell.marks) old.client d.fell.are);
-          }
+        -- both cores answer
+        calls_both : BothAnswer one other alike new.core again.core c.asks.client c.asks.asked.call c.reply d.reply
+        calls_both = record {
+          history = seen.history;
+          past = seen_too.history;
+          shows = seen.shows;
+          shows_too = seen_too.shows;
+          known = seen.known;
+          known_too = seen_too.known;
+          joinless = step_joinless setup.clients c.asks.stage.known c.asks.next.step c.asks.asked c.asks.client c.reply c.asks.call;
+          old = names_old alike.to alike.id one.core other.core c.asks.asked.call (asks_known setup one seen actor c.asks)
+              (subst (λ (x : StepCall). KnownCall (λ key. given other.core.forest key ≡ true) (λ i. i ≤ other.core.events) x.call)
+              calls_old.asked (asks_known setup other seen_too actor d.asks));
+          made = c.made;
+          made_too = subst (λ (x : StepCall). Makes other.core again.core (c.asks.client, x.call, d.reply)) calls_old.asked
+              (subst (λ (n : ℕ). Makes other.core again.core (n, d.asks.asked.call, d.reply)) calls_old.client d.made);
+          fell = seen.fell;
+          fell_too = seen_too.fell;
+          marks = c.fell.marks;
+          more = d.fell.marks;
+          are = c.fell.are;
+          are_too = subst (λ (x : StepCall). AreStages other.core again.core c.asks.client x.call d.reply d.fell.marks) calls_old.asked
+              (subst (λ (n : ℕ). AreStages other.core again.core n d.asks.asked.call d.reply d.fell.marks) calls_old.client d.fell.are);
+        }
 
-          -- the reply under the new names
-          told : (d.reply ≡ reply_renamed (keys one other alike c.reply d.reply) (ids one other alike) (numbers one other alike) c.reply)
-              × AreAlikeCores (keys one other alike c.reply d.reply) (ids one other alike) (numbers one other alike) new.core again.core
-          told = cores_again one other alike new.core again.core c.asks.client c.asks.asked.call c.reply d.reply both
+        -- the reply under the new names
+        calls_told : (d.reply ≡ reply_renamed (keys one other alike c.reply d.reply) (ids one other alike) (numbers one other alike) c.reply)
+            × AreAlikeCores (keys one other alike c.reply d.reply) (ids one other alike) (numbers one other alike) new.core again.core
+        calls_told = cores_again one other alike new.core again.core c.asks.client c.asks.asked.call c.reply d.reply calls_both
 
-          -- what both ask for under the new names
-          named : AskAlike (keys one other alike c.reply d.reply) (ids one other alike) (numbers one other alike) c.asks d.asks
-          named = asks_both (keys one other alike c.reply d.reply) (ids one other alike) (numbers one other alike)
-              (stages_again one other alike new.core again.core c.asks.client c.asks.asked.call c.reply d.reply both) c.asks d.asks
+        -- what both ask for under the new names
+        calls_named : AskAlike (keys one other alike c.reply d.reply) (ids one other alike) (numbers one other alike) c.asks d.asks
+        calls_named = asks_both (keys one other alike c.reply d.reply) (ids one other alike) (numbers one other alike)
+            (stages_again one other alike new.core again.core c.asks.client c.asks.asked.call c.reply d.reply calls_both) c.asks d.asks
+
+        -- What a reply tells whatever its names are, both tell.
+        pub replies_same : {A : Type 0} (f : Reply → A) →
+            ((to : NodeKey → NodeKey) (id number : ℕ → ℕ) (reply : Reply) → f (reply_renamed to id number reply) ≡ f reply) →
+            f d.reply ≡ f c.reply
+        replies_same f names = ap f calls_told.0
+            ∙ names (keys one other alike c.reply d.reply) (ids one other alike) (numbers one other alike) c.reply
+
+        -- Where both answer, the plays stay alike.
+        pub calls_alike : AreAlikePlays new again
+        unfolding calls_both
+        calls_alike = subst (AreAlikePlays new) (λ i. record again { stages = sym d.stages i; falls = sym d.fell.falls i })
+            (subst (λ (p : Position). AreAlikePlays p (record again {
+              stages = slice_set other.stages actor (stage_after d.asks.stage d.asks.next d.asks.asked d.reply);
+              falls = other.falls ++ flat_map falls_at d.fell.marks;
+            })) (λ i. record new { stages = sym c.stages i; falls = sym c.fell.falls i })
+            (goes_alike one other alike new.core again.core c.asks.client c.asks.asked.call c.reply d.reply calls_both actor
+            (stage_after c.asks.stage c.asks.next c.asks.asked c.reply) (stage_after d.asks.stage d.asks.next d.asks.asked d.reply)
+            (subst (AreAlikeStages (keys one other alike c.reply d.reply) (ids one other alike) (numbers one other alike)
+            (stage_after c.asks.stage c.asks.next c.asks.asked c.reply))
+            (λ i. stage_after d.asks.stage (sym calls_named.next i) (sym calls_named.asked i) (sym calls_told.0 i))
+            (after-alike (keys one other alike c.reply d.reply) (ids one other alike) (numbers one other alike) c.asks.stage d.asks.stage
+            calls_named.same (keys_kept alike.to alike.keeps (new_key c.reply) (new_key d.reply))
+            (number_kept alike.id alike.kept (one.core.events + 1) (other.core.events + 1)) c.asks.next c.asks.asked c.reply))))
 
       -- And so where an actor leaves.
       pub leaves_alike : Leaves setup actor one new → Leaves setup actor other again → AreAlikePlays new again

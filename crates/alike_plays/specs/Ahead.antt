@@ -3,9 +3,11 @@ use Rattle.std.specs.Prelude.{◌≡◌, ◌==◌, ◌+◌, ℕ, zero, suc, Bool
 use Rattle.std.specs.Prelude.{if◌then◌else◌, List, [], drop, length, map, slice_get, Option, Some, None}
 use Rattle.std.specs.Option.{option_map, option_map_or}
 use Rattle.actor_scripts.specs.ActorStates.{nothing_known}
+use Rattle.explore_model.specs.declared.plan.Plan.{Plan}
 use Rattle.actor_plays.specs.Leaves.{Leave, all_objects}
 use Rattle.actor_plays.specs.Plays.{Stage}
 use Rattle.actor_plays.specs.Positions.{Position, Setup, left_at}
+use Rattle.actor_plays.specs.Queries.{results_at}
 use Rattle.alike_plays.specs.AlikePlays.{AreAlikePlays}
 
 -- where an actor is that leaves, without what lies behind it: where it was and what it knew. If no parcel waits, its objects are
@@ -66,3 +68,8 @@ count_early early begun = early_first early begun (length begun)
 pub record AreAlikeAhead (early : ℕ → ℕ → Bool) (one other : Position) : Type 0 where
   pub alike : AreAlikePlays (ahead one) (ahead other)
   pub began : (place : ℕ) → early_in early (map left_at other.stages) place ≡ early_in early (map left_at one.stages) place
+
+-- so are plays of these plans, whose actors answer all that is asked of them alike
+pub record AreAlikeAsked (early : ℕ → ℕ → Bool) (plans : List Plan) (one other : Position) : Type 0 where
+  pub ahead_alike : AreAlikeAhead early one other
+  pub results : (actor : ℕ) → results_at plans other.stages actor ≡ results_at plans one.stages actor

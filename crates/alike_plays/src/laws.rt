@@ -17,11 +17,12 @@ ghost use Rattle.explore_model.specs.declared.found.Turn.{Turn};
 ghost use Rattle.actor_plays.specs.Fates.{AreFalls};
 ghost use Rattle.actor_plays.specs.Endings.{ends_in};
 ghost use Rattle.actor_plays.specs.Plays.{Plays, Stage, has_fired, leaves_by, left, next_step, passed, polls, stage_after};
+ghost use Rattle.actor_plays.specs.Queries.{results_at};
 ghost use Rattle.actor_plays.specs.Positions.{Asks, Calls, HasToWait, Leaves, Passes, Position, Reached, Rests, Setup, left_at};
 ghost use Rattle.alike_cores.specs.Alike.{KeepsIds, call_renamed, reply_renamed};
 ghost use Rattle.alike_cores.specs.Renamed.{KeepsKeys};
 ghost use Rattle.alike_plays.specs.Actors.{AreAlikeKnown, AreAlikeStages, asked_renamed};
-ghost use Rattle.alike_plays.specs.Ahead.{AreAlikeAhead, GoesByEarly, count_early};
+ghost use Rattle.alike_plays.specs.Ahead.{AreAlikeAhead, AreAlikeAsked, GoesByEarly, count_early};
 ghost use Rattle.alike_plays.specs.AlikePlays.{AreAlikePlays};
 ghost use Rattle.alike_plays.specs.Closed.{IsClosed, IsMet, IsSimulation};
 ghost use Rattle.alike_plays.specs.Names.{KnownActor, KnownCall, KnownReply, KnownStage, NamesAgree};
@@ -120,15 +121,19 @@ pub fn alike_plays_stay_alike()
         Leaves setup actor one new → Leaves setup actor other again → AreAlikePlays new again }
 {}
 
-/// Two plays that are alike end the same: outcomes name nodes and trackers by the steps that made them.
+/// Two plays that are alike end the same, if their actors answer alike what is asked of them: outcomes name nodes and trackers
+/// by the steps that made them.
 pub fn alike_plays_end_alike()
-    ensures { (setup : Setup) (one other : Position) → Reached setup one →
-        AreAlikePlays one other → ends_in other ≡ ends_in one }
+    ensures { (setup : Setup) (plans : List Plan) (one other : Position) → Reached setup one →
+        AreAlikePlays one other →
+        ((actor : ℕ) → results_at plans other.stages actor ≡ results_at plans one.stages actor) →
+        ends_in plans other ≡ ends_in plans one }
 {}
 
 /// Of an actor that leaves only what it has still to do makes a difference: plays that are alike but for
 /// what lies behind such actors do the same, and those that are alike are so. Which actor may begin to leave
-/// must be told by which ones began early; it is, if it is told by how many did.
+/// must be told by which ones began early; it is, if it is told by how many did. Those whose actors answer alike what is asked of
+/// them go on to answer alike: whatever its names are, a reply tells the same, and actors that are alike have as many handles.
 pub fn what_lies_behind_makes_no_difference()
     ensures exactly { (early : ℕ → ℕ → Bool) (one other : Position) →
         AreAlikePlays one other → AreAlikeAhead early one other }
@@ -137,13 +142,15 @@ pub fn what_lies_behind_makes_no_difference()
         setup.may_leave begun actor at ≡ may (count_early early begun) actor at) → GoesByEarly early setup }
     ensures simulates { (setup : Setup) (early : ℕ → ℕ → Bool) → GoesByEarly early setup →
         IsSimulation setup (AreAlikeAhead early) }
+    ensures answers { (setup : Setup) (plans : List Plan) (early : ℕ → ℕ → Bool) → GoesByEarly early setup →
+        IsSimulation setup (AreAlikeAsked early plans) }
 {}
 
-/// Two plays that are alike but for what lies behind actors that leave end the same, as plays do that are alike. Each actor is
-/// at the same step in both, or leaves in both, and began to early or not.
+/// Two plays that are alike but for what lies behind actors that leave end the same, as plays do that are alike, if their actors
+/// answer alike. Each actor is at the same step in both, or leaves in both, and began to early or not.
 pub fn plays_alike_ahead_end_alike()
-    ensures ends { (setup : Setup) (early : ℕ → ℕ → Bool) (one other : Position) → Reached setup one →
-        AreAlikeAhead early one other → ends_in other ≡ ends_in one }
+    ensures ends { (setup : Setup) (plans : List Plan) (early : ℕ → ℕ → Bool) (one other : Position) →
+        Reached setup one → AreAlikeAsked early plans one other → ends_in plans other ≡ ends_in plans one }
     ensures steps { (early : ℕ → ℕ → Bool) (one other : Position) (like : AreAlikeAhead early one other)
         (actor : ℕ) (stage same : Stage) → slice_get one.stages actor ≡ Some stage →
         slice_get other.stages actor ≡ Some same →

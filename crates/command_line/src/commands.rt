@@ -233,16 +233,15 @@ fn vanish_word<'a>(alloc: Global) -> Arg<'a> {
 }
 
 // The option `--most N`.
-fn most_word<'a>(alloc: Global) -> Result<Arg<'a>, AllocError> {
+fn most_word<'a>(alloc: Global) -> Arg<'a> {
     option(
         alloc,
         MOST,
         "N",
-        "At most N clients of --vanish vanish early in one run, from 1",
+        "At most N clients vanish early in one run, from 1",
     )
     .value_parser(value_parser!(u64).range(1..))
     .default_value("1")
-    .requires_arg(VANISH)
 }
 
 // The option `--end`.
@@ -400,7 +399,7 @@ fn argument<'a>(alloc: Global, word: Word) -> Result<Arg<'a>, AllocError> {
         Word::Patience => patience_word(alloc),
         Word::End => Ok(end_word(alloc)),
         Word::Vanish => Ok(vanish_word(alloc)),
-        Word::Most => most_word(alloc),
+        Word::Most => Ok(most_word(alloc)),
         Word::Outcome => Ok(outcome_word(alloc)),
         Word::States => Ok(states_word(alloc)),
         Word::Certify => Ok(certify_word(alloc)),

@@ -291,7 +291,7 @@ is am there, or x1 if that is taken.
 lets a or b vanish at any point, at most one of them, or as many as --most says:
 the client is shut, collects its parcels, closes its tokens and collections, and
 drops its handles. `all` stands for all clients. The report has a part for each
-set of clients that vanish. Lines of the script let at most one vanish, unless
+set of clients that vanish. Lines of the script let clients vanish too, unless
 --vanish is given:
 
     #! vanish a b
@@ -305,8 +305,9 @@ is missing. Otherwise it says `not certified`, and a line on standard error why.
 
 With --list the report is in lines for programs: `outcomes 2, certified`, then
 for each outcome `1 client b waits 7`, `1 node 4 s lives pending`, `1 tracker 5
-gone fires` and `1 free 16`, with lines of the script and the labels of
---outcome. `unmade 8` is a line that no order makes, `claim 9 holds` a claim.
+gone fires`, `1 free 16` and, if claims ask, `1 fact b gets 2`, with lines of
+the script and the labels of --outcome. `unmade 8` is a line that no order
+makes, `claim 9 holds` a claim.
 
 A script may have claims, which other commands skip, such as
 
@@ -315,8 +316,10 @@ A script may have claims, which other commands skip, such as
     #! sometimes b waits
 
 A fact is: NODE fails [CAUSE] [by NODE], NODE ends, NODE lives, NODE pending
-(it remains, without buffers), CLIENT waits, TRACKER fires, or free PAGES. The
-report says which claims hold, and which outcome breaks one that does not.";
+(it remains, without buffers), CLIENT waits, TRACKER fires, free PAGES, CLIENT
+gets N (buffers, by a check or take), CLIENT holds N (handles, at the end), line
+N refused, line N pending (the call on it is answered so), or line N skipped.
+The report says which claims hold, and which outcome breaks one that does not.";
 
 pub(crate) const EXPLORE_STATUS: &str = "\
 Status: 0 all orders were searched, and all claims hold; 1 FILE can't be opened,

@@ -10,6 +10,7 @@ use Rattle.explore_model.specs.declared.plan.Plan.{Plan}
 use Rattle.explore_model.specs.declared.plan.Planned.{Planned}
 use Rattle.explore_model.specs.declared.plan.Wait.{Wait}
 use Rattle.explore_model.specs.declared.plan.Waiting.{Waiting}
+use Rattle.explore_model.specs.declared.query.ActorQuery.{ActorQuery}
 
 -- the label of a node
 abbrev pub node_label : {B : Type 0} → Object ℕ B → Option ℕ
@@ -79,3 +80,7 @@ planned waiting steps = planned_first waiting steps (length steps)
 -- the steps of a plan
 abbrev pub steps_of : Plan → List Planned
 steps_of plan = plan.steps.items
+
+-- what a plan asks
+abbrev pub queries_of : Plan → List ActorQuery
+queries_of plan = plan.queries.items

@@ -4,7 +4,9 @@
 mod found;
 mod outcome;
 mod plan;
+mod query;
 
 pub use found::{Doubt, Exploration, Figures, Found, Turn, Vanishing};
 pub use outcome::{ActorOutcome, Became, Fate, Outcome, StepPlace};
 pub use plan::{Plan, Planned, Waiting, plan_of};
+pub use query::{ActorQuery, QueryResult};

@@ -1,4 +1,5 @@
 //! What plays come to.
+use crate::query::QueryResult;
 use sm_names::Cause;
 
 /// A step: the place of its actor, and its own in the actor's plan.
@@ -40,10 +41,11 @@ pub struct ActorOutcome {
     pub made: Vec<(usize, Became)>,
 }
 
-/// What a play comes to: what came of each actor, in the order of their plans, and the free pages. It names nodes and
-/// trackers by the steps that made them, so it is the same for plays that differ in names alone.
+/// What a play comes to: what came of each actor, in the order of their plans, the free pages, and the answers to what the
+/// plans ask. It names nodes and trackers by the steps that made them, so it is the same for plays that differ in names alone.
 #[derive(Drop)]
 pub struct Outcome {
     pub actors: Vec<ActorOutcome>,
     pub free: u32,
+    pub results: Vec<QueryResult>,
 }

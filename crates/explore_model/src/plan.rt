@@ -1,7 +1,8 @@
 //! What an actor is to do: its steps, some of which wait.
-ghost use Rattle.std.specs.Prelude.{◌≡◌, ◌<◌, ◌++◌, length, slice_get, IfOk, OnOk};
-ghost use Rattle.explore_model.specs.Plans.{are_alike, follows_alike as follows, is_repeat as is_repeated, node_label as label_of, planned, planned_at, same_wait, steps_of, wait_of as waits_for, waits_at as waits_there};
+ghost use Rattle.std.specs.Prelude.{◌≡◌, ◌<◌, ◌++◌, [], length, slice_get, IfOk, OnOk};
+ghost use Rattle.explore_model.specs.Plans.{are_alike, follows_alike as follows, is_repeat as is_repeated, node_label as label_of, planned, planned_at, queries_of, same_wait, steps_of, wait_of as waits_for, waits_at as waits_there};
 
+use crate::query::ActorQuery;
 use actor_scripts::{Step, StepBuffer};
 use sm_names::{CallKind, Object};
 use std::alloc::{AllocError, Global};
@@ -17,10 +18,11 @@ pub struct Planned {
     pub waits: bool,
 }
 
-/// The steps of an actor, as plays make them.
+/// The steps of an actor, as plays make them, and what is asked of it in plays that are over.
 #[derive(Drop)]
 pub struct Plan {
     pub steps: Vec<Planned>,
+    pub queries: Vec<ActorQuery>,
 }
 
 /// Which steps of a script wait, among its Collects, Checks, Takes and looks at trackers.
@@ -157,15 +159,33 @@ fn add_step(
     Ok(())
 }
 
-/// The plan of an actor with these steps, of which those wait that `waiting` says.
+/// The plan of an actor with these steps, of which those wait that `waiting` says. Nothing is asked of it.
 ///
 /// `AllocError` where memory is refused. Costs O(n) for n steps.
 pub fn plan_of(alloc: Global, steps: &[Step], waiting: Waiting) -> Result<Plan, AllocError>
-    ensures { IfOk result (λ plan. steps_of plan ≡ planned waiting steps.now) }
+    ensures steps { IfOk result (λ plan. steps_of plan ≡ planned waiting steps.now) }
+    ensures queries { IfOk result (λ plan. queries_of plan ≡ []) }
 {
     let mut planned = Vec::new(alloc);
     for at in 0..steps.len() {
         add_step(&mut planned, waiting, steps, at)?;
     }
-    Ok(Plan { steps: planned })
+    Ok(Plan {
+        steps: planned,
+        queries: Vec::new(alloc),
+    })
+}
+
+impl Plan {
+    /// The plan with the same steps, of whose actor this is asked.
+    ///
+    /// `AllocError` where memory is refused. Costs O(n) for n steps.
+    pub fn asking(&self, alloc: Global, queries: Vec<ActorQuery>) -> Result<Plan, AllocError>
+        ensures steps { IfOk result (λ plan. steps_of plan ≡ steps_of self.now) }
+        ensures queries { IfOk result (λ plan. queries_of plan ≡ queries.items) }
+    {
+        let mut steps = Vec::new(alloc);
+        steps.extend_from_slice(&self.steps)?;
+        Ok(Plan { steps, queries })
+    }
 }

@@ -22,6 +22,7 @@ use Rattle.outcome_texts.specs.Reasons.{HasListFault}
 use Rattle.outcome_texts.specs.ClaimLines.{Text, claim_texts_of, claims_in, judged, who_told}
 use Rattle.outcome_texts.specs.declared.lines.StepLine.{StepLine}
 use Rattle.outcome_texts.specs.Lines.{step_lines_of, steps_in}
+use Rattle.outcome_texts.specs.Facts.{AreAsking}
 use Rattle.outcome_texts.specs.Lists.{list_text}
 use Rattle.outcome_texts.specs.Plays.{line_told}
 use Rattle.outcome_texts.specs.Reports.{IsReport}
@@ -166,12 +167,22 @@ abbrev pub IsToldWith : SearchJob → List ℕ → Telling → List ClaimLine �
 IsToldWith job seed telling claims text ending =
     IsFoundWith job seed telling claims text ending ⊎ IsUnknown job telling text ending
 
+-- the same by plans that ask what the claims ask, where all else is as it was
+pub record IsToldAsking (job : SearchJob) (seed : List ℕ) (telling : Telling) (claims : List ClaimLine) (text : List ℕ)
+    (ending : Ending) : Type 0 where
+  pub asking : Telling
+  pub labels : asking.labels.now ≡ telling.labels.now
+  pub steps : asking.steps.now ≡ telling.steps.now
+  pub vanishing : asking.vanishing ≡ telling.vanishing
+  pub asks : AreAsking telling claims asking.plans.now
+  pub told : IsToldWith job seed asking claims text ending
+
 -- the same with the claims of these lines, which are all good
 pub record IsFoundBy (job : SearchJob) (seed : List ℕ) (texts : List Text) (telling : Telling) (text : List ℕ)
     (ending : Ending) : Type 0 where
   pub claims : List ClaimLine
   pub good : judged telling texts ≡ Ok (claims_in claims)
-  pub told : IsToldWith job seed telling claims text ending
+  pub told : IsToldAsking job seed telling claims text ending
 
 -- the same by what a report of this list and these plans is made of, with the claims of the script
 pub record IsToldBy (job : SearchJob) (seed script : List ℕ) (list : ActorList) (plans : List Plan) (text : List ℕ)

@@ -9,15 +9,15 @@ ghost use Rattle.outcome_texts.specs.ClaimLines.{claims_in, judged, texts_in};
 ghost use Rattle.outcome_texts.specs.Reasons.{HasListFault, fault_words};
 ghost use Rattle.outcome_texts.specs.Lines.{step_lines_of, steps_in};
 ghost use Rattle.report_io.specs.Faults.{HasReason, IsBadLine};
-ghost use Rattle.outcome_runs.specs.Searches.{HasSearched, IsFoundBy, IsFoundWith, IsJudged, IsListed, IsPlayed, IsSaid, IsSearch, IsText, IsTold, IsToldBy, IsToldWith, IsUnfound, IsUnheld, IsUnheldBy, IsUnjudged, IsUnknown, IsUnlike, IsUnlisted, IsUnsearched, IsUntold, doubt_told, doubts_told, judged_ending, list_asked, missing_ending, outcome_at, stop_told, turn_told, whole_ending};
+ghost use Rattle.outcome_runs.specs.Searches.{HasSearched, IsFoundBy, IsFoundWith, IsJudged, IsListed, IsPlayed, IsSaid, IsSearch, IsText, IsTold, IsToldAsking, IsToldBy, IsToldWith, IsUnfound, IsUnheld, IsUnheldBy, IsUnjudged, IsUnknown, IsUnlike, IsUnlisted, IsUnsearched, IsUntold, doubt_told, doubts_told, judged_ending, list_asked, missing_ending, outcome_at, stop_told, turn_told, whole_ending};
 
 use crate::job::{DoubtLine, Ending, SearchHost, SearchJob};
 use actor_scripts::{ActorList, ActorScriptFault, read_actors};
 use explore_model::{Doubt, Exploration, Found, Plan, Vanishing};
 use outcome_texts::{
-    BadClaim, ClaimFault, ClaimLine, ClaimText, LabelNames, StepLine, Telling, claim_texts,
-    fault_of_list, has_broken, judged_claims, names_of, push_claims, push_list, push_play,
-    push_report, step_lines, who_of,
+    BadClaim, ClaimFault, ClaimLine, ClaimText, LabelNames, StepLine, Telling, asking_plans,
+    claim_texts, fault_of_list, has_broken, judged_claims, names_of, push_claims, push_list,
+    push_play, push_report, step_lines, who_of,
 };
 use play_search::{Effort, ExploreFault, Progress, Setting, explore, plans_of};
 use report_io::{ReportFault, bad_actor_line};
@@ -399,8 +399,46 @@ fn told_from<P: Progress>(
     ensures err { IfErr result (IsUnfound (texts_in texts.now) telling.now) }
 {
     match claims_of(host.alloc, telling, texts) {
-        Ok(claims) => told_with(host, seed, job, telling, &claims),
+        Ok(claims) => told_asking(host, seed, job, telling, &claims),
         Err(fault) => Err(fault),
+    }
+}
+
+// The same, by plans that ask what these claims ask.
+fn told_asking<P: Progress>(
+    host: SearchHost<'_, P>,
+    seed: [u8; 16],
+    job: SearchJob<'_>,
+    telling: &Telling<'_>,
+    claims: &[ClaimLine<'_>],
+) -> Result<SearchReport, ReportFault>
+    requires { (1 ≤ job.pages) × (job.pages ≤ MAX_PAGES) }
+    ensures ok { IfOk result (λ told. IsToldAsking job.entry seed telling.now claims.now
+        told.text.items told.ending) }
+    ensures err { IfErr result IsUnsearched }
+{
+    let plans = match asking_plans(host.alloc, telling, claims) {
+        Ok(plans) => plans,
+        Err(_) => return Err(ReportFault::NoMemory),
+    };
+    let asking = with_plans(telling, &plans);
+    told_with(host, seed, job, &asking, claims)
+}
+
+// What a report of these plans is made of.
+fn with_plans<'a>(telling: &Telling<'a>, plans: &'a [Plan]) -> Telling<'a>
+    ensures labels { result.labels.now ≡ telling.now.labels.now }
+    ensures steps { result.steps.now ≡ telling.now.steps.now }
+    ensures plans { result.plans.now ≡ plans.now }
+    ensures vanishing { result.vanishing ≡ telling.now.vanishing }
+{
+    Telling {
+        labels: telling.labels,
+        names: telling.names,
+        steps: telling.steps,
+        plans,
+        vanishing: telling.vanishing,
+        hash: telling.hash,
     }
 }
 

@@ -1,3 +1,4 @@
+pub mod AskingPlans
 pub mod Calling
 pub mod Claiming
 pub mod Counting

@@ -1,6 +1,7 @@
 -- What is so in an outcome, as claims say it.
-use Rattle.std.specs.Prelude.{ℕ, zero, suc, ◌+◌, ◌==◌, ◌&&◌, ◌||◌, nat_lt, Bool, true, false, not, if◌then◌else◌, List, length, slice_get, Option, Some, None}
-use Rattle.std.specs.List.{list_any}
+use Rattle.std.specs.Prelude.{◌≡◌, ℕ, zero, suc, ◌+◌, ◌==◌, ◌&&◌, ◌||◌, nat_lt, Bool, true, false, not, if◌then◌else◌, List, [], ◌∷◌, ◌++◌}
+use Rattle.std.specs.Prelude.{length, map, slice_get, Option, Some, None}
+use Rattle.std.specs.List.{flat_map, list_any}
 use Rattle.std.specs.Option.{option_and_then, option_map_or}
 use Rattle.sm_names.specs.declared.call_parts.Product.{Product}
 use Rattle.sm_names.specs.declared.outcomes.Cause.{Cause}
@@ -12,6 +13,7 @@ use Rattle.script_lines.specs.declared.label.Label.{Label}
 use Rattle.script_lines.specs.declared.line.Line.{Line}
 use Rattle.script_lines.specs.Labels.{same_label}
 use Rattle.script_lines.specs.Lines.{line_of}
+use Rattle.script_lines.specs.declared.claim.CallFact.{CallFact}
 use Rattle.script_lines.specs.declared.claim.Fact.{Fact}
 use Rattle.script_lines.specs.declared.claim.NodeFact.{NodeFact}
 use Rattle.script_lines.specs.declared.claim.NodeName.{NodeName}
@@ -20,13 +22,16 @@ use Rattle.actor_scripts.specs.declared.step.Step.{Step}
 use Rattle.explore_model.specs.declared.outcome.Fate.{Fate}
 use Rattle.explore_model.specs.declared.plan.Plan.{Plan}
 use Rattle.explore_model.specs.declared.plan.Planned.{Planned}
-use Rattle.explore_model.specs.Plans.{steps_of}
+use Rattle.explore_model.specs.declared.query.ActorQuery.{ActorQuery}
+use Rattle.explore_model.specs.declared.query.QueryResult.{QueryResult}
+use Rattle.explore_model.specs.Plans.{queries_of, steps_of}
 use Rattle.explore_model.specs.declared.outcome.Became.{Became}
 use Rattle.explore_model.specs.declared.outcome.StepPlace.{StepPlace}
 use Rattle.explore_model.specs.Outcomes.{End, Ends}
 use Rattle.outcome_texts.specs.Plays.{line_told}
 use Rattle.outcome_texts.specs.declared.lines.StepLine.{StepLine}
 use Rattle.outcome_texts.specs.declared.telling.Telling.{Telling}
+use Rattle.outcome_texts.specs.declared.verdicts.ClaimLine.{ClaimLine}
 
 -- the test holds of one of the numbers below this one
 abbrev pub any_below : (ℕ → Bool) → ℕ → Bool
@@ -193,12 +198,37 @@ is_left telling ends actor =
 abbrev pub waits : Telling → List End → Label → ℕ → Bool
 waits telling ends client actor = is_meant telling.labels.now (Some client) actor && is_left telling ends actor
 
+-- ---- answers to queries
+
+-- the step at this place of the actor's plan stands on the line of this number
+abbrev pub is_on_line : Telling → ℕ → ℕ → ℕ → Bool
+is_on_line telling number actor at = option_map_or (λ (step : StepLine). step.number == number) (line_told telling actor at) false
+
+-- the place of the step that the query asks about, if it asks so about a call
+abbrev pub asked_place : CallFact → ActorQuery → Option ℕ
+asked_place CallFact.Refused (ActorQuery.Refused at) = Some at
+asked_place CallFact.Pending (ActorQuery.Pending at) = Some at
+asked_place CallFact.Skipped (ActorQuery.Skipped at) = Some at
+asked_place _ _ = None
+
+-- a claim of this fact asks this of the actor of this place
+abbrev pub asks : Telling → Fact → ℕ → ActorQuery → Bool
+asks telling (Fact.Gets client count) actor (ActorQuery.Gets asked) = is_meant telling.labels.now (Some client) actor && asked == count
+asks telling (Fact.Holds client count) actor (ActorQuery.Holds asked) = is_meant telling.labels.now (Some client) actor && asked == count
+asks telling (Fact.Line number said) actor query = option_map_or (is_on_line telling number actor) (asked_place said query) false
+asks _ _ _ _ = false
+
+-- the answer is that the fact is so
+abbrev pub shows : Telling → Fact → QueryResult → Bool
+shows telling fact result = result.so && asks telling fact result.actor result.query
+
 -- the fact is so where plays end so
 abbrev pub has_fact : Telling → Fact → Ends → Bool
 has_fact telling (Fact.Node name fact) ends = any_below (has_node telling ends.actors name fact) (length ends.actors)
 has_fact telling (Fact.Waits client) ends = any_below (waits telling ends.actors client) (length ends.actors)
 has_fact telling (Fact.Fires name) ends = any_below (has_fired telling ends.actors name) (length ends.actors)
 has_fact telling (Fact.Free pages) ends = ends.free == pages
+has_fact telling fact ends = list_any (shows telling fact) ends.results
 
 -- ---- what can be said
 
@@ -207,9 +237,69 @@ abbrev pub knows_origin : Telling → NodeFact → Bool
 knows_origin telling (NodeFact.Fails cause origin) = option_map_or (is_named telling false) origin true
 knows_origin telling _ = true
 
--- all that the fact names is there: each node and tracker is made by just one client, and the client joins
+-- the client joins
+abbrev pub joins : Telling → Label → Bool
+joins telling client = any_below (is_meant telling.labels.now (Some client)) (length telling.labels.now)
+
+-- a step of the actor of this place stands on the line of this number
+abbrev pub has_line : Telling → ℕ → ℕ → Bool
+has_line telling number actor = option_map_or
+    (λ (plan : Plan). any_below (is_on_line telling number actor) (length (steps_of plan))) (slice_get telling.plans.now actor) false
+
+-- all that the fact names is there: each node and tracker is made by just one client, the client joins, and the line is a step
 abbrev pub is_known : Telling → Fact → Bool
 is_known telling (Fact.Node name fact) = is_named telling false name && knows_origin telling fact
-is_known telling (Fact.Waits client) = any_below (is_meant telling.labels.now (Some client)) (length telling.labels.now)
+is_known telling (Fact.Waits client) = joins telling client
 is_known telling (Fact.Fires name) = is_named telling true name
 is_known telling (Fact.Free pages) = true
+is_known telling (Fact.Gets client count) = joins telling client
+is_known telling (Fact.Holds client count) = joins telling client
+is_known telling (Fact.Line number fact) = any_below (has_line telling number) (length telling.plans.now)
+
+-- ---- what claims ask of plays
+
+-- the query about the call of the step at this place
+abbrev pub call_query : CallFact → ℕ → ActorQuery
+call_query CallFact.Refused at = ActorQuery.Refused at
+call_query CallFact.Pending at = ActorQuery.Pending at
+call_query CallFact.Skipped at = ActorQuery.Skipped at
+
+-- the same, if the step stands on the line of this number
+abbrev pub query_at : Telling → ℕ → CallFact → ℕ → ℕ → List ActorQuery
+query_at telling number fact actor at = if is_on_line telling number actor at then call_query fact at ∷ [] else []
+
+-- those about so many steps of the actor
+abbrev pub queries_first : Telling → ℕ → CallFact → ℕ → ℕ → List ActorQuery
+queries_first telling number fact actor zero = []
+queries_first telling number fact actor (suc count) =
+    queries_first telling number fact actor count ++ query_at telling number fact actor count
+
+-- the query, if the client is the actor of this place
+abbrev pub client_query : Telling → Label → ℕ → ActorQuery → List ActorQuery
+client_query telling client actor query = if is_meant telling.labels.now (Some client) actor then query ∷ [] else []
+
+-- what a claim of this fact asks of the actor of this place, which has so many steps
+abbrev pub fact_queries : Telling → ℕ → ℕ → Fact → List ActorQuery
+fact_queries telling actor steps (Fact.Gets client count) = client_query telling client actor (ActorQuery.Gets count)
+fact_queries telling actor steps (Fact.Holds client count) = client_query telling client actor (ActorQuery.Holds count)
+fact_queries telling actor steps (Fact.Line number fact) = queries_first telling number fact actor steps
+fact_queries telling actor steps _ = []
+
+-- what these claims ask of it
+abbrev pub claim_queries : Telling → List ClaimLine → ℕ → ℕ → List ActorQuery
+claim_queries telling claims actor steps = flat_map (λ (one : ClaimLine). fact_queries telling actor steps one.claim.fact) claims
+
+-- the same of the actor of this place by its plan
+abbrev pub asked_at : Telling → List ClaimLine → ℕ → List ActorQuery
+asked_at telling claims actor = option_map_or
+    (λ (plan : Plan). claim_queries telling claims actor (length (steps_of plan))) (slice_get telling.plans.now actor) []
+
+-- what they ask of each of so many actors
+abbrev pub asked_first : Telling → List ClaimLine → ℕ → List (List ActorQuery)
+asked_first telling claims zero = []
+asked_first telling claims (suc count) = asked_first telling claims count ++ asked_at telling claims count ∷ []
+
+-- these plans have the steps of those that are told of, and ask what the claims ask
+pub record AreAsking (telling : Telling) (claims : List ClaimLine) (plans : List Plan) : Type 0 where
+  pub steps_are : map steps_of plans ≡ map steps_of telling.plans.now
+  pub queries_are : map queries_of plans ≡ asked_first telling claims (length telling.plans.now)

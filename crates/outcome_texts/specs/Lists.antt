@@ -10,6 +10,8 @@ use Rattle.explore_model.specs.declared.found.Found.{Found}
 use Rattle.explore_model.specs.declared.outcome.Became.{Became}
 use Rattle.explore_model.specs.declared.outcome.Fate.{Fate}
 use Rattle.explore_model.specs.declared.outcome.StepPlace.{StepPlace}
+use Rattle.explore_model.specs.declared.query.ActorQuery.{ActorQuery}
+use Rattle.explore_model.specs.declared.query.QueryResult.{QueryResult}
 use Rattle.explore_model.specs.Outcomes.{End, Ends, ends_of}
 use Rattle.outcome_texts.specs.Facts.{is_before}
 use Rattle.outcome_texts.specs.Plays.{bound_at, line_told}
@@ -80,9 +82,31 @@ actors_lines telling rank ends (suc count) = actors_lines telling rank ends coun
 abbrev pub free_line : ℕ → ℕ → List ℕ
 free_line rank free = decimal rank ++ codes " free " ++ decimal free ++ codes "\n"
 
+-- the client of this place and a number, as claims say it
+abbrev pub counted_words : Telling → ℕ → List ℕ → ℕ → List ℕ
+counted_words telling actor verb count = label_text (slice_get telling.labels.now actor) ++ verb ++ decimal count
+
+-- the line of a step, and what is said of its call, as claims say it
+abbrev pub call_words : Telling → ℕ → ℕ → List ℕ → List ℕ
+call_words telling actor at said = codes "line " ++ number_text telling actor at ++ said
+
+-- what is asked of the actor of this place, as claims say it
+abbrev pub query_words : Telling → ℕ → ActorQuery → List ℕ
+query_words telling actor (ActorQuery.Gets count) = counted_words telling actor (codes " gets ") count
+query_words telling actor (ActorQuery.Holds count) = counted_words telling actor (codes " holds ") count
+query_words telling actor (ActorQuery.Refused at) = call_words telling actor at (codes " refused")
+query_words telling actor (ActorQuery.Pending at) = call_words telling actor at (codes " pending")
+query_words telling actor (ActorQuery.Skipped at) = call_words telling actor at (codes " skipped")
+
+-- what is asked, if it is so
+abbrev pub result_line : Telling → ℕ → QueryResult → List ℕ
+result_line telling rank result =
+    if result.so then decimal rank ++ codes " fact " ++ query_words telling result.actor result.query ++ codes "\n" else []
+
 -- the outcome of this number
 abbrev pub outcome_lines : Telling → ℕ → Ends → List ℕ
 outcome_lines telling rank ends = actors_lines telling rank ends.actors (length ends.actors) ++ free_line rank ends.free
+    ++ flat_map (result_line telling rank) ends.results
 
 -- the same of the outcome of this place
 abbrev pub lines_at : Telling → List Found → ℕ → List ℕ

@@ -1,5 +1,6 @@
 -- Why a line is bad that is to be a claim, or to let clients vanish.
 use Rattle.std.specs.Prelude.{ℕ, ◌≡◌, ◌==◌, Bool, true, false, if◌then◌else◌, List, [], ◌∷◌, ◌++◌, length, codes, Option, Some, None}
+use Rattle.std.specs.Fmt.{decimal}
 use Rattle.std.specs.Option.{option_and_then, option_map_or}
 use Rattle.script_lines.specs.declared.claim.Claim.{Claim}
 use Rattle.script_lines.specs.declared.claim.Fact.{Fact}
@@ -41,6 +42,7 @@ fault_words ClaimFault.List = codes "expected all alone, or clients that join"
 fault_words (ClaimFault.Stranger client) = pieces (codes "the client " ∷ label_text (Some client) ∷ codes " does not join" ∷ [])
 fault_words (ClaimFault.Unmade is_tracker name) = unmade_words is_tracker ++ name_text name
 fault_words (ClaimFault.Several name) = several_words ++ name_text name
+fault_words (ClaimFault.NoStep number) = pieces (codes "no step begins on line " ∷ decimal number ∷ [])
 
 -- ---- claims
 
@@ -77,6 +79,9 @@ fact_fault telling (Fact.Node name fact) = first_fault (name_fault telling false
 fact_fault telling (Fact.Waits client) = Some (ClaimFault.Stranger client)
 fact_fault telling (Fact.Fires name) = name_fault telling true name
 fact_fault telling (Fact.Free pages) = None
+fact_fault telling (Fact.Gets client count) = Some (ClaimFault.Stranger client)
+fact_fault telling (Fact.Holds client count) = Some (ClaimFault.Stranger client)
+fact_fault telling (Fact.Line number fact) = Some (ClaimFault.NoStep number)
 
 -- this, if it is there, or that the line has not the form of a claim
 abbrev pub or_form : Option ClaimFault → ClaimFault

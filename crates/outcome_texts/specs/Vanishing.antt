@@ -1,8 +1,8 @@
 -- Who may vanish, in words.
-use Rattle.std.specs.Prelude.{ℕ, zero, suc, ◌==◌, ◌&&◌, Bool, false, not, if◌then◌else◌, List, [], ◌∷◌, ◌++◌, codes, length, slice_get}
+use Rattle.std.specs.Prelude.{ℕ, zero, suc, ◌==◌, ◌&&◌, Bool, false, not, if◌then◌else◌, List, [], ◌∷◌, ◌++◌, codes, length, slice_get, Option}
 use Rattle.std.specs.Fmt.{decimal}
-use Rattle.std.specs.List.{flat_map, list_any}
-use Rattle.std.specs.Option.{option_map_or}
+use Rattle.std.specs.List.{flat_map, list_any, position}
+use Rattle.std.specs.Option.{option_and_then, option_map_or}
 use Rattle.script_lines.specs.declared.label.Label.{Label}
 use Rattle.script_lines.specs.Labels.{label_text}
 use Rattle.explore_model.specs.declared.found.Vanishing.{Vanishing}
@@ -40,6 +40,24 @@ most_text most of =
     if most == 1 then pieces (codes "at most one" ∷ of ∷ codes " vanishes, at any point" ∷ [])
     else pieces (codes "at most " ∷ decimal most ∷ of ∷ codes " vanish, at any points" ∷ [])
 
+-- the first client that may vanish
+abbrev pub sole : List Label → List Bool → Option Label
+sole labels who = option_and_then (slice_get labels) (position (λ (may : Bool). may) who)
+
+-- it may vanish
+abbrev pub sole_text : List Label → List Bool → List ℕ
+sole_text labels who = pieces (label_text (sole labels who) ∷ codes " may vanish, at any point" ∷ [])
+
+-- just one client may vanish
+abbrev pub is_sole : List Label → List Bool → Bool
+is_sole labels who = count_below (may_vanish who) (length labels) == 1
+
+-- who vanishes, where somebody may at any point
+abbrev pub some_text : List Label → Vanishing → List ℕ
+some_text labels vanishing =
+    if is_sole labels vanishing.who.now then sole_text labels vanishing.who.now
+    else most_text vanishing.most (of_text labels vanishing.who.now)
+
 -- what follows these words, if each client vanishes at its end too
 abbrev pub end_text : Bool → List ℕ
 end_text at_end = if at_end then codes ", and each at its end" else []
@@ -51,7 +69,7 @@ none_text at_end = if at_end then codes "each vanishes at its end" else codes "n
 -- who vanishes
 abbrev pub how_text : List Label → Vanishing → List ℕ
 how_text labels vanishing = if can_vanish vanishing
-    then most_text vanishing.most (of_text labels vanishing.who.now) ++ end_text vanishing.at_end
+    then some_text labels vanishing ++ end_text vanishing.at_end
     else none_text vanishing.at_end
 
 -- the client of this place, behind another one

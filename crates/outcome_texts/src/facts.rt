@@ -3,12 +3,12 @@ ghost use Rattle.std.specs.Prelude.{◌≡◌, ◌&&◌, length, ℕ};
 ghost use Rattle.std.specs.List.{list_any};
 ghost use Rattle.explore_model.specs.Outcomes.{ends_of};
 ghost use Rattle.explore_model.specs.declared.outcome.Became.{Became as BecameTold};
-ghost use Rattle.outcome_texts.specs.Facts.{any_below, became_so as so_told, binds as binds_told, has_fact as fact_told, has_fired as fired_told, has_node as node_told, is_before as before_told, is_caused as caused_told, is_ended as ended_told, is_failed as failed_told, is_failure as failure_told, is_fate as fate_told, is_fired as fires_told, is_left as left_told, is_live as live_told, is_misuse as misuse_told, is_origin as origin_told, is_pending as pending_told, is_so_caused as so_caused_told, is_step_of as step_told, same_failure as same_told, waits as waits_told};
+ghost use Rattle.outcome_texts.specs.Facts.{any_below, asked_place as place_asked, asks as asks_told, became_so as so_told, binds as binds_told, has_fact as fact_told, has_fired as fired_told, has_node as node_told, is_before as before_told, is_caused as caused_told, is_ended as ended_told, is_failed as failed_told, is_failure as failure_told, is_fate as fate_told, is_fired as fires_told, is_left as left_told, is_live as live_told, is_misuse as misuse_told, is_origin as origin_told, is_pending as pending_told, is_so_caused as so_caused_told, is_step_of as step_told, same_failure as same_told, shows as shows_told, waits as waits_told};
 
-use crate::makers::{binds, is_meant};
+use crate::makers::{binds, is_meant, is_on_line};
 use crate::telling::Telling;
-use explore_model::{Became, Fate, Outcome, StepPlace};
-use script_lines::{Fact, Label, NodeFact, NodeName, SaidCause};
+use explore_model::{ActorQuery, Became, Fate, Outcome, QueryResult, StepPlace};
+use script_lines::{CallFact, Fact, Label, NodeFact, NodeName, SaidCause};
 use sm_names::{Cause, Failure, Misuse};
 
 // Whether both are the same.
@@ -280,6 +280,49 @@ fn waits(telling: &Telling<'_>, outcome: &Outcome, client: Label) -> bool
     found
 }
 
+// The place of the step that the query asks about, if it asks so about a call.
+fn asked_place(fact: CallFact, query: ActorQuery) -> Option<usize>
+    ensures { result ≡ place_asked fact query }
+{
+    match (fact, query) {
+        (CallFact::Refused, ActorQuery::Refused(at)) => Some(at),
+        (CallFact::Pending, ActorQuery::Pending(at)) => Some(at),
+        (CallFact::Skipped, ActorQuery::Skipped(at)) => Some(at),
+        _ => None,
+    }
+}
+
+// Whether a claim of this fact asks this of the actor of this place.
+fn asks(telling: &Telling<'_>, fact: Fact, actor: usize, query: ActorQuery) -> bool
+    ensures { result ≡ asks_told telling.now fact actor query }
+{
+    match (fact, query) {
+        (Fact::Gets(client, count), ActorQuery::Gets(asked))
+        | (Fact::Holds(client, count), ActorQuery::Holds(asked)) => {
+            is_meant(telling.labels, Some(client), actor) && asked == count
+        }
+        (Fact::Line(number, said), _) => match asked_place(said, query) {
+            Some(at) => is_on_line(telling, number, actor, at),
+            None => false,
+        },
+        _ => false,
+    }
+}
+
+// Whether the answer is that the fact is so.
+fn shows(telling: &Telling<'_>, fact: Fact, one: QueryResult) -> bool
+    ensures { result ≡ shows_told telling.now fact one }
+{
+    one.so && asks(telling, fact, one.actor, one.query)
+}
+
+// Whether one of the answers is.
+fn is_answered(telling: &Telling<'_>, outcome: &Outcome, fact: Fact) -> bool
+    ensures { result ≡ list_any (shows_told telling.now fact) (ends_of outcome.now).results }
+{
+    outcome.results.iter().any(|one| shows(telling, fact, *one))
+}
+
 /// Whether the fact is so in the outcome. Costs O(n) for n lines, for each call of the outcome's play.
 pub fn has_fact(telling: &Telling<'_>, outcome: &Outcome, fact: Fact) -> bool
     ensures { result ≡ fact_told telling.now fact (ends_of outcome.now) }
@@ -289,5 +332,6 @@ pub fn has_fact(telling: &Telling<'_>, outcome: &Outcome, fact: Fact) -> bool
         Fact::Waits(client) => waits(telling, outcome, client),
         Fact::Fires(name) => has_fired(telling, outcome, name),
         Fact::Free(pages) => outcome.free == pages,
+        Fact::Gets(..) | Fact::Holds(..) | Fact::Line(..) => is_answered(telling, outcome, fact),
     }
 }

@@ -2,6 +2,7 @@
 //! script, and what it says of claims.
 #![tactic(auto)]
 
+mod asking;
 mod calls;
 mod claims;
 mod facts;
@@ -23,6 +24,7 @@ mod verdicts;
 mod who;
 mod words;
 
+pub use asking::asking_plans;
 pub use calls::{PlayCall, calls_of};
 pub use claims::{BadClaim, ClaimText, claim_texts, judged_claims};
 pub use facts::has_fact;

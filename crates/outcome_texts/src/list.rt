@@ -4,14 +4,16 @@ ghost use Rattle.std.specs.List.{flat_map};
 ghost use Rattle.std.specs.Option.{option_map_or};
 ghost use Rattle.explore_model.specs.Outcomes.{end_of, ends_of};
 ghost use Rattle.explore_model.specs.declared.outcome.Fate.{Fate as FateTold};
-ghost use Rattle.outcome_texts.specs.Lists.{actor_lines, actors_lines, all_lines, became_words, breaking_words, buffers_words as buffers_told, client_line, end_lines, end_words, extent_words as extent_told, fate_words, free_line, judged_line, kind_words as kind_told, lines_at, list_head, list_text, made_line, number_text, origin_words, outcome_lines, unmade_line, verdict_words};
+ghost use Rattle.outcome_texts.specs.Lists.{actor_lines, actors_lines, all_lines, became_words, breaking_words, buffers_words as buffers_told, call_words, client_line, counted_words, end_lines, end_words, extent_words as extent_told, fate_words, free_line, judged_line, kind_words as kind_told, lines_at, list_head, list_text, made_line, number_text, origin_words, outcome_lines, query_words, result_line, unmade_line, verdict_words};
 
 use crate::facts::is_before;
 use crate::report::certificate;
 use crate::telling::Telling;
 use crate::vanishing::label_at;
 use crate::verdicts::{ClaimLine, Verdict, verdict_on};
-use explore_model::{ActorOutcome, Became, Exploration, Fate, Found, Outcome, StepPlace};
+use explore_model::{
+    ActorOutcome, ActorQuery, Became, Exploration, Fate, Found, Outcome, QueryResult, StepPlace,
+};
 use script_labels::push_cause;
 use script_lines::{Part, push, push_label, push_number, push_parts};
 use sm_names::Cause;
@@ -263,6 +265,109 @@ fn push_actors(
     Ok(())
 }
 
+// Appends the client of this place and a number, as claims say it.
+fn push_counted(
+    text: &mut Vec<u8>,
+    telling: &Telling<'_>,
+    actor: usize,
+    verb: &str,
+    count: u32,
+) -> Result<(), AllocError>
+    ensures { OnOk result (text.new.items
+        ≡ text.old.items ++ counted_words telling.now actor verb.now count) }
+{
+    push_parts(
+        text,
+        &[
+            Part::Name(label_at(telling.labels, actor)),
+            Part::Word(verb),
+            Part::Number(count as u64),
+        ],
+    )
+}
+
+// Appends the line of a step, and what is said of its call, as claims say it.
+fn push_call_words(
+    text: &mut Vec<u8>,
+    telling: &Telling<'_>,
+    actor: usize,
+    at: usize,
+    said: &str,
+) -> Result<(), AllocError>
+    ensures { OnOk result
+        (text.new.items ≡ text.old.items ++ call_words telling.now actor at said.now) }
+{
+    push(text, "line ")?;
+    push_line_number(text, telling, actor, at)?;
+    push(text, said)
+}
+
+// Appends what is asked of the actor of this place, as claims say it.
+pub(crate) fn push_query(
+    text: &mut Vec<u8>,
+    telling: &Telling<'_>,
+    actor: usize,
+    query: ActorQuery,
+) -> Result<(), AllocError>
+    ensures { OnOk result (text.new.items ≡ text.old.items ++ query_words telling.now actor query) }
+{
+    match query {
+        ActorQuery::Gets(count) => push_counted(text, telling, actor, " gets ", count),
+        ActorQuery::Holds(count) => push_counted(text, telling, actor, " holds ", count),
+        ActorQuery::Refused(at) => push_call_words(text, telling, actor, at, " refused"),
+        ActorQuery::Pending(at) => push_call_words(text, telling, actor, at, " pending"),
+        ActorQuery::Skipped(at) => push_call_words(text, telling, actor, at, " skipped"),
+    }
+}
+
+// Appends what is asked, if it is so.
+fn push_result(
+    text: &mut Vec<u8>,
+    telling: &Telling<'_>,
+    rank: u64,
+    one: QueryResult,
+) -> Result<(), AllocError>
+    ensures { OnOk result (text.new.items ≡ text.old.items ++ result_line telling.now rank one) }
+{
+    if !one.so {
+        return Ok(());
+    }
+    push_parts(text, &[Part::Number(rank), Part::Word(" fact ")])?;
+    push_query(text, telling, one.actor, one.query)?;
+    push(text, "\n")
+}
+
+// The same of all that is asked.
+fn push_results(
+    text: &mut Vec<u8>,
+    telling: &Telling<'_>,
+    rank: u64,
+    results: &[QueryResult],
+) -> Result<(), AllocError>
+    ensures { OnOk result (text.new.items
+        ≡ text.old.items ++ flat_map (result_line telling.now rank) results.now) }
+{
+    'results: for one in results {
+        push_result(text, telling, rank, *one)?;
+    }
+    Ok(())
+}
+
+// Appends the free pages.
+fn push_free(text: &mut Vec<u8>, rank: u64, free: u32) -> Result<(), AllocError>
+    ensures { OnOk result (text.new.items ≡ text.old.items ++ free_line rank free) }
+{
+    push_parts(
+        text,
+        &[
+            Part::Number(rank),
+            Part::Word(" free "),
+            Part::Number(free as u64),
+            Part::Word("\n"),
+        ],
+    )
+}
+
 // Appends the outcome of this number.
 fn push_outcome(
     text: &mut Vec<u8>,
@@ -274,15 +379,8 @@ fn push_outcome(
         ++ outcome_lines telling.now rank (ends_of outcome.now)) }
 {
     push_actors(text, telling, rank, outcome)?;
-    push_parts(
-        text,
-        &[
-            Part::Number(rank),
-            Part::Word(" free "),
-            Part::Number(outcome.free as u64),
-            Part::Word("\n"),
-        ],
-    )
+    push_free(text, rank, outcome.free)?;
+    push_results(text, telling, rank, &outcome.results)
 }
 
 // The same of the outcome of this place.
@@ -435,8 +533,8 @@ fn push_list_head(text: &mut Vec<u8>, found: &Exploration) -> Result<(), AllocEr
 }
 
 /// Appends what a search found, in lines for programs: how many outcomes there are, and whether they are certified; of each
-/// outcome, by its number, each client, what its steps made, by line and label, with what became of it, and the free pages; the
-/// steps that no order makes; and what is said of each claim.
+/// outcome, by its number, each client, what its steps made, by line and label, with what became of it, the free pages, and what
+/// the plans ask that is so; the steps that no order makes; and what is said of each claim.
 ///
 /// `AllocError` where memory is refused. Costs O(n) for n lines of the script, for each line that is appended.
 pub fn push_list(

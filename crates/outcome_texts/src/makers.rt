@@ -1,7 +1,7 @@
 //! Which client makes what a claim names.
 ghost use Rattle.std.specs.Prelude.{◌≡◌, ◌||◌, length, Some};
 ghost use Rattle.explore_model.specs.Plans.{steps_of};
-ghost use Rattle.outcome_texts.specs.Facts.{any_below, binds as binds_told, count_below, is_known as known_told, is_maker as maker_told, is_meant as meant_told, is_named as named_told, knows_origin as origin_told, line_label as label_told, makes as makes_told, makes_at as made_at, makes_node as node_made};
+ghost use Rattle.outcome_texts.specs.Facts.{any_below, binds as binds_told, count_below, has_line as line_there, is_known as known_told, is_maker as maker_told, is_meant as meant_told, is_named as named_told, is_on_line as on_line_told, knows_origin as origin_told, line_label as label_told, makes as makes_told, makes_at as made_at, makes_node as node_made};
 
 use crate::telling::Telling;
 use actor_scripts::Step;
@@ -163,8 +163,50 @@ pub(crate) fn has_client(labels: &[Label], client: Label) -> bool
     found
 }
 
-/// Whether all that the fact names is there: each node and tracker is made by just one client, and the client joins.
-/// Costs O(n) for n lines, for each step.
+// Whether the step at this place of the actor's plan stands on the line of this number.
+pub(crate) fn is_on_line(telling: &Telling<'_>, number: u32, actor: usize, at: usize) -> bool
+    ensures { result ≡ on_line_told telling.now number actor at }
+{
+    match telling.line(actor, at) {
+        Some(step) => step.number == number as u64,
+        None => false,
+    }
+}
+
+// Whether one of so many steps of the actor does.
+fn has_line_first(telling: &Telling<'_>, number: u32, actor: usize, steps: usize) -> bool
+    ensures { result ≡ any_below (on_line_told telling.now number actor) steps }
+{
+    let mut found = false;
+    'steps: for at in 0..steps {
+        found = either(found, is_on_line(telling, number, actor, at));
+    }
+    found
+}
+
+// Whether a step of the actor does.
+fn has_line(telling: &Telling<'_>, number: u32, actor: usize) -> bool
+    ensures { result ≡ line_there telling.now number actor }
+{
+    match telling.plans.get(actor) {
+        Some(plan) => has_line_first(telling, number, actor, plan.steps.len()),
+        None => false,
+    }
+}
+
+// Whether a step stands on that line.
+pub(crate) fn is_step_line(telling: &Telling<'_>, number: u32) -> bool
+    ensures { result ≡ any_below (line_there telling.now number) (length telling.now.plans.now) }
+{
+    let mut found = false;
+    'actors: for actor in 0..telling.plans.len() {
+        found = either(found, has_line(telling, number, actor));
+    }
+    found
+}
+
+/// Whether all that the fact names is there: each node and tracker is made by just one client, the client joins, and the line is
+/// a step. Costs O(n) for n lines, for each step.
 pub fn is_known(telling: &Telling<'_>, fact: Fact) -> bool
     ensures { result ≡ known_told telling.now fact }
 {
@@ -173,5 +215,8 @@ pub fn is_known(telling: &Telling<'_>, fact: Fact) -> bool
         Fact::Waits(client) => has_client(telling.labels, client),
         Fact::Fires(name) => is_named(telling, true, name),
         Fact::Free(_) => true,
+        Fact::Gets(client, _) => has_client(telling.labels, client),
+        Fact::Holds(client, _) => has_client(telling.labels, client),
+        Fact::Line(number, _) => is_step_line(telling, number),
     }
 }

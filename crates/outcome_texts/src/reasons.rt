@@ -27,6 +27,8 @@ pub enum ClaimFault {
     Unmade { is_tracker: bool, name: NodeName },
     /// Several clients make one of this name.
     Several(NodeName),
+    /// No step begins on the line of this number.
+    NoStep(u32),
 }
 
 impl ClaimFault {
@@ -49,6 +51,7 @@ impl ClaimFault {
                 push(text, several_words())?;
                 push_name(text, name)
             }
+            ClaimFault::NoStep(number) => push_no_step(text, number),
         }
     }
 }
@@ -64,6 +67,20 @@ fn push_stranger(text: &mut Vec<u8>, client: Label) -> Result<(), AllocError>
             Part::Word("the client "),
             Part::Name(Some(client)),
             Part::Word(" does not join"),
+        ],
+    )
+}
+
+// Appends that no step begins on the line of this number.
+fn push_no_step(text: &mut Vec<u8>, number: u32) -> Result<(), AllocError>
+    ensures { OnOk result
+        (text.new.items ≡ text.old.items ++ fault_words (FaultTold.NoStep number)) }
+{
+    push_parts(
+        text,
+        &[
+            Part::Word("no step begins on line "),
+            Part::Number(number as u64),
         ],
     )
 }
@@ -172,6 +189,9 @@ fn fact_fault(telling: &Telling<'_>, fact: Fact) -> Option<ClaimFault>
         Fact::Waits(client) => Some(ClaimFault::Stranger(client)),
         Fact::Fires(name) => name_fault(telling, true, name),
         Fact::Free(_) => None,
+        Fact::Gets(client, _) => Some(ClaimFault::Stranger(client)),
+        Fact::Holds(client, _) => Some(ClaimFault::Stranger(client)),
+        Fact::Line(number, _) => Some(ClaimFault::NoStep(number)),
     }
 }
 

@@ -257,12 +257,37 @@ fn push_clients(all: &Outcomes<'_>, rows: &mut Vec<ReportRow>) -> Result<(), All
     push_subjects(all, rows, &clients)
 }
 
-// Appends all rows: nodes, clients, trackers, free pages.
+// Appends a row for each thing that is asked of the actor of this place.
+fn push_asked_of(
+    all: &Outcomes<'_>,
+    rows: &mut Vec<ReportRow>,
+    plan: &Plan,
+    actor: usize,
+) -> Result<(), AllocError> {
+    for at in 0..plan.queries.len() {
+        if !plan.queries[..at].contains(&plan.queries[at]) {
+            push_subjects(all, rows, &[Subject::Asked(actor, plan.queries[at])])?;
+        }
+    }
+    Ok(())
+}
+
+// The same of all actors.
+fn push_asked(all: &Outcomes<'_>, rows: &mut Vec<ReportRow>) -> Result<(), AllocError> {
+    let plans = all.telling.plans;
+    for actor in 0..plans.len() {
+        push_asked_of(all, rows, &plans[actor], actor)?;
+    }
+    Ok(())
+}
+
+// Appends all rows: nodes, clients, trackers, free pages, what claims ask.
 fn push_all(all: &Outcomes<'_>, rows: &mut Vec<ReportRow>) -> Result<(), AllocError> {
     push_made(all, rows, false)?;
     push_clients(all, rows)?;
     push_made(all, rows, true)?;
-    push_subjects(all, rows, &[Subject::Free])
+    push_subjects(all, rows, &[Subject::Free])?;
+    push_asked(all, rows)
 }
 
 // How many steps the plans have.
@@ -490,10 +515,10 @@ fn push_told<'a>(
 }
 
 /// Appends the report: how many clients, steps, orders, states and outcomes there are, who may vanish, whether the search is
-/// certified, if it was to be, and what became of each node, client and tracker, and of the pages, in which outcomes; if
-/// somebody may vanish at any point, apart for those in which the same clients vanished, and without shares of the runs. Below
-/// stand the lines whose calls no order makes, at most 20. No clause says how many orders are told, and what the rows and these
-/// lines are.
+/// certified, if it was to be, what became of each node, client and tracker, and of the pages, and what the plans ask, in which
+/// outcomes; if somebody may vanish at any point, apart for those in which the same clients vanished, and without shares of the
+/// runs. Below stand the lines whose calls no order makes, at most 20. No clause says how many orders are told, and what the rows
+/// and these lines are.
 ///
 /// `AllocError` where memory is refused. Costs O(n^2) for n outcomes, for each node, client and tracker.
 pub fn push_report(

@@ -5,7 +5,7 @@ ghost use Rattle.outcome_texts.specs.Plays.{bound_at, line_told, step_told};
 use crate::labels::LabelNames;
 use crate::lines::{StepLine, line_at};
 use actor_scripts::Step;
-use explore_model::{Became, Found, Plan, Vanishing};
+use explore_model::{ActorQuery, Became, Found, Plan, Vanishing};
 use script_lines::{Label, LabelHash};
 use sm_names::{Product, row_of};
 
@@ -21,14 +21,15 @@ pub struct Telling<'a> {
     pub hash: LabelHash,
 }
 
-// What a row is about: a node or a tracker, by the actor and the place of the step that makes it, a client, or the
-// free pages.
+// What a row is about: a node or a tracker, by the actor and the place of the step that makes it, a client, the free pages, or
+// a query on an actor.
 #[derive(Clone, Copy)]
 pub(crate) enum Subject {
     Node(usize, usize),
     Tracker(usize, usize),
     Client(usize),
     Free,
+    Asked(usize, ActorQuery),
 }
 
 // The place of the step among the actor's steps.
@@ -78,6 +79,19 @@ impl<'a> Telling<'a> {
             Some(step) => self.names.bound(actor, step.line),
             None => None,
         }
+    }
+}
+
+// Whether what the query asks of the actor is so, in a word.
+pub(crate) fn answer(found: &Found, actor: usize, query: ActorQuery) -> &'static str {
+    let results = &found.outcome.results;
+    if results
+        .iter()
+        .any(|one| one.so && one.actor == actor && one.query == query)
+    {
+        "yes"
+    } else {
+        "no"
     }
 }
 

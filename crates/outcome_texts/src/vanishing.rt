@@ -1,8 +1,8 @@
 //! Who may vanish, and who did, in words.
 ghost use Rattle.std.specs.Prelude.{◌≡◌, ◌∷◌, ◌++◌, Bool, IfOk, OnOk, length, slice_get};
-ghost use Rattle.std.specs.List.{flat_map, list_any};
+ghost use Rattle.std.specs.List.{flat_map, list_any, position};
 ghost use Rattle.outcome_texts.specs.Facts.{count_below};
-ghost use Rattle.outcome_texts.specs.Vanishing.{all_may as all_told, also_text, can_vanish as can_told, end_text, gone_end, gone_text, how_text, may_vanish as may_told, most_text, none_text, of_text, one_text, whom_below};
+ghost use Rattle.outcome_texts.specs.Vanishing.{all_may as all_told, also_text, can_vanish as can_told, end_text, gone_end, gone_text, how_text, is_sole as is_sole_told, may_vanish as may_told, most_text, none_text, of_text, one_text, sole as sole_told, sole_text, some_text, whom_below};
 
 use explore_model::{Found, Vanishing};
 use script_lines::{Label, Part, push, push_label, push_parts};
@@ -118,6 +118,59 @@ fn push_most(text: &mut Vec<u8>, most: usize, of: &[u8]) -> Result<(), AllocErro
     )
 }
 
+// Whether just one client may vanish.
+fn is_sole(labels: &[Label], who: &[bool]) -> bool
+    ensures { result ≡ is_sole_told labels.now who.now }
+{
+    count_may(who, labels.len()) == 1
+}
+
+// The place of the first that may.
+fn sole_place(who: &[bool]) -> Option<usize>
+    ensures { result ≡ position (λ (may : Bool). may) who.now }
+{
+    who.iter().position(|may| *may)
+}
+
+// Its label.
+fn sole(labels: &[Label], who: &[bool]) -> Option<Label>
+    ensures { result ≡ sole_told labels.now who.now }
+{
+    match sole_place(who) {
+        Some(actor) => label_at(labels, actor),
+        None => None,
+    }
+}
+
+// Appends that it may vanish.
+fn push_sole(text: &mut Vec<u8>, labels: &[Label], who: &[bool]) -> Result<(), AllocError>
+    ensures { OnOk result (text.new.items ≡ text.old.items ++ sole_text labels.now who.now) }
+{
+    push_parts(
+        text,
+        &[
+            Part::Name(sole(labels, who)),
+            Part::Word(" may vanish, at any point"),
+        ],
+    )
+}
+
+// Appends who may vanish, where somebody may at any point.
+fn push_some(
+    alloc: Global,
+    text: &mut Vec<u8>,
+    labels: &[Label],
+    vanishing: Vanishing<'_>,
+) -> Result<(), AllocError>
+    ensures { OnOk result (text.new.items ≡ text.old.items ++ some_text labels.now vanishing.entry) }
+{
+    if is_sole(labels, vanishing.who) {
+        return push_sole(text, labels, vanishing.who);
+    }
+    let of = of_words(alloc, labels, vanishing.who)?;
+    push_most(text, vanishing.most, &of)
+}
+
 // What follows these words, if each client vanishes at its end too.
 fn end_words(at_end: bool) -> &'static str
     ensures { result.now ≡ end_text at_end }
@@ -149,8 +202,7 @@ pub(crate) fn how_words(
         push(&mut words, none_words(vanishing.at_end))?;
         return Ok(words);
     }
-    let of = of_words(alloc, labels, vanishing.who)?;
-    push_most(&mut words, vanishing.most, &of)?;
+    push_some(alloc, &mut words, labels, vanishing)?;
     push(&mut words, end_words(vanishing.at_end))?;
     Ok(words)
 }

@@ -1,6 +1,7 @@
 //! What is said of nodes, trackers and clients.
+use crate::list::push_query;
 use crate::row_names::RowNames;
-use crate::telling::{Subject, Telling, became_at};
+use crate::telling::{Subject, Telling, answer, became_at};
 use explore_model::{Became, Fate, Found, StepPlace};
 use script_labels::push_cause;
 use script_lines::{Part, push, push_label, push_number, push_parts};
@@ -106,6 +107,7 @@ impl Telling<'_> {
             Subject::Tracker(actor, at) => made.push_tracker(text, actor, at),
             Subject::Client(actor) => self.push_client(text, made.found, actor),
             Subject::Free => push_number(text, made.found.outcome.free as u64),
+            Subject::Asked(actor, query) => push(text, answer(made.found, actor, query)),
         }
     }
 
@@ -120,6 +122,7 @@ impl Telling<'_> {
             Subject::Node(actor, at) | Subject::Tracker(actor, at) => names.push(text, actor, at),
             Subject::Client(actor) => push_label(text, self.labels.get(actor).copied()),
             Subject::Free => push(text, "free"),
+            Subject::Asked(actor, query) => push_query(text, self, actor, query),
         }
     }
 }

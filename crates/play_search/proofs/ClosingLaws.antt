@@ -20,7 +20,7 @@ use Rattle.actor_plays.proofs.PositionLaws.{all_rest, further}
 use Rattle.alike_plays.specs.Closed.{IsSimulation}
 use Rattle.alike_plays.specs.Ways.{IsAt, IsCallTried, IsLeaveTried, LeadsBack}
 use Rattle.alike_plays.proofs.AheadActors.{counts_early}
-use Rattle.alike_plays.proofs.AheadTurns.{ahead_simulates}
+use Rattle.alike_plays.proofs.Asked.{asked_simulates}
 use Rattle.alike_plays.proofs.SameTurns.{last_none, same_turns, way_met}
 use Rattle.play_search.specs.declared.graph.Row.{Row}
 use Rattle.play_search.specs.declared.replay.Setting.{Setting}
@@ -230,7 +230,7 @@ first_way (row ∷ rows) less = refl
 -- Plays of a search that are alike, but for what lies behind actors that leave, do the same: who may leave goes by how many left early.
 pub do_the_same : (plans : List Plan) (vanishing : Vanishing) (setting : Setting) →
     IsSimulation (setup_of plans vanishing setting) (AlikeIn plans vanishing)
-do_the_same plans vanishing setting = ahead_simulates (setup_of plans vanishing setting) (began_early vanishing.at_end plans)
+do_the_same plans vanishing setting = asked_simulates (setup_of plans vanishing setting) (began_early vanishing.at_end plans) plans
     (counts_early (setup_of plans vanishing setting) (began_early vanishing.at_end plans) (may_begin vanishing plans)
     (λ begun actor at. refl))
 

@@ -9,7 +9,7 @@ use Rattle.actor_plays.specs.Moves.{TakesTurn, position_of}
 use Rattle.actor_plays.specs.Plays.{stages_of}
 use Rattle.actor_plays.specs.Positions.{Calls, Position, Reached, Rests, Setup}
 use Rattle.actor_plays.proofs.PositionLaws.{all_rest, by_turns}
-use Rattle.alike_plays.specs.Ahead.{AreAlikeAhead}
+use Rattle.alike_plays.specs.Ahead.{AreAlikeAsked}
 use Rattle.alike_plays.specs.Ways.{IsAt}
 use Rattle.alike_plays.proofs.Ending.{ends-same}
 use Rattle.alike_plays.proofs.Reaching.{reached_seen}
@@ -27,14 +27,15 @@ use Rattle.play_search.proofs.EndLaws.{all_vanished, over_alike}
 
 -- What ends the second play ends the first: they end the same, and the same ones left before their end.
 pub ends_as_alike : (setup : Setup) (at_end : Bool) (p r : Position) → Reached setup p →
-    AreAlikeAhead (began_early at_end setup.plans) p r → (outcomes : List Found) → EndsAsOne at_end setup.plans outcomes r →
+    AreAlikeAsked (began_early at_end setup.plans) setup.plans p r → (outcomes : List Found) → EndsAsOne at_end setup.plans outcomes r →
     EndsAsOne at_end setup.plans outcomes p
 ends_as_alike setup at_end p r reached like outcomes one = (
   one.0,
   one.1,
   record {
-    ends = one.2.ends ∙ ends-same (began_early at_end setup.plans) p r (reached_seen setup p reached) like;
-    vanished_are = one.2.vanished_are ∙ all_vanished at_end setup.plans p r like;
+    ends = one.2.ends
+        ∙ ends-same (began_early at_end setup.plans) p r (reached_seen setup p reached) like.ahead_alike setup.plans like.results;
+    vanished_are = one.2.vanished_are ∙ all_vanished at_end setup.plans p r like.ahead_alike;
   },
 )
 
@@ -56,8 +57,8 @@ module _ (plans : List Plan) (vanishing : Vanishing) (setting : Setting) (rows :
       (do_the_same plans vanishing setting).composes p met.2.0 mine.end met.2.2 same in
       let there = by_turns (setup_of plans vanishing setting) (way_to rows at.0) mine.end mine.is_at.reached in
       ends_as_alike (setup_of plans vanishing setting) vanishing.at_end p mine.end reached like outcomes
-      (mine.ends (over_alike (began_early vanishing.at_end plans) p mine.end like vanishing.at_end (setup_of plans vanishing setting)
-      reached there over))
+      (mine.ends (over_alike (began_early vanishing.at_end plans) p mine.end like.ahead_alike vanishing.at_end
+      (setup_of plans vanishing setting) reached there over))
 
 module _ (plans : List Plan) (vanishing : Vanishing) (setting : Setting) (old : Play) where
   -- A play is not over where an actor must leave.

@@ -11,6 +11,7 @@ use Rattle.actor_plays.specs.Leaves.{Leave}
 use Rattle.actor_plays.specs.Moves.{HasRest, HavePassed, IsOfSetup, TakesLeave, may_go_at, position_of}
 use Rattle.actor_plays.specs.Plays.{IsLeave, IsPlay, Stage, first_clients, stages_of}
 use Rattle.actor_plays.specs.Positions.{Begins, ReachedBy, Setup, left_at, may_go as allowed}
+use Rattle.actor_plays.specs.Queries.{results_at, results_by}
 use Rattle.actor_plays.proofs.MoveLaws.{come_leave, come_on, come_start}
 use Rattle.alike_plays.specs.Ahead.{count_early, early_first, early_in, is_early_in}
 use Rattle.play_search.specs.declared.replay.Setting.{Setting}
@@ -143,3 +144,16 @@ all_began early one other count same place = by (slice_get one place) (slice_get
     by None (Some stage) none again =
         same place (subst (λ (n : ℕ). place < n) (sym count) (slice_get_within other place stage again))
     by None None none again = past other again ∙ sym (past one none)
+
+-- Where the actors of all plans answer alike, those of all places do: no other has a plan.
+pub all_answer : (plans : List Plan) (one other : List Stage) → ((k : ℕ) → k < length plans →
+    results_at plans other k ≡ results_at plans one k) → (actor : ℕ) → results_at plans other actor ≡ results_at plans one actor
+all_answer plans one other same actor = by (slice_get plans actor) refl
+  where
+    -- by whether there is one
+    by : (o : Option Plan) → slice_get plans actor ≡ o → results_at plans other actor ≡ results_at plans one actor
+    by (Some plan) there = same actor (slice_get_within plans actor plan there)
+    by None none =
+        ap (λ (p : Option Plan). option_map_or (λ (plan : Plan). option_map_or (results_by actor plan) (slice_get other actor) []) p []) none
+        ∙ sym (ap (λ (p : Option Plan). option_map_or (λ (plan : Plan). option_map_or (results_by actor plan) (slice_get one actor) []) p [])
+        none)

@@ -5,7 +5,7 @@ use Rattle.sm_names.specs.Elements.{In}
 use Rattle.explore_model.specs.declared.plan.Plan.{Plan}
 use Rattle.explore_model.specs.declared.found.Turn.{Turn}
 use Rattle.actor_plays.specs.Positions.{Position, Reached, Rests, Setup}
-use Rattle.alike_plays.specs.Ahead.{AreAlikeAhead}
+use Rattle.alike_plays.specs.Ahead.{AreAlikeAsked}
 use Rattle.alike_plays.specs.Ways.{AreClosedWays, IsAt, IsCallTried, IsLeaveTried}
 use Rattle.play_search.specs.declared.graph.Row.{Row}
 use Rattle.play_search.specs.declared.replay.Setting.{Setting}
@@ -37,9 +37,9 @@ ways_first rows (suc count) = way_to rows count ∷ ways_first rows count
 abbrev pub ways_of : List Row → List (List Turn)
 ways_of rows = ways_first rows (length rows)
 
--- plays of a search may stand for one another: they are alike, but for what lies behind actors that leave
+-- plays of a search may stand for one another: they are alike, but for what lies behind actors that leave, and answer alike
 abbrev pub AlikeIn : List Plan → Vanishing → Position → Position → Type 0
-AlikeIn plans vanishing = AreAlikeAhead (began_early vanishing.at_end plans)
+AlikeIn plans vanishing = AreAlikeAsked (began_early vanishing.at_end plans) plans
 
 -- the position, at which all rest, is like one to which one of the ways leads
 pub record IsBack (setup : Setup) (Like : Position → Position → Type 0) (ways : List (List Turn)) (p : Position) : Type 0 where

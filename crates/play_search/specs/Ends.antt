@@ -16,7 +16,7 @@ use Rattle.play_search.specs.Vanishings.{must_leave, vanished}
 
 -- a play that is here ends as the outcome says, and those left before their end that are said to have done so
 pub record EndsAs (at_end : Bool) (plans : List Plan) (p : Position) (found : Found) : Type 0 where
-  pub ends : EndsSo p found.outcome
+  pub ends : EndsSo plans p found.outcome
   pub vanished_are : found.vanished.items ≡ vanished at_end plans p.stages
 
 -- it ends as one of these says

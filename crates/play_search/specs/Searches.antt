@@ -97,7 +97,7 @@ pub record IsFound (plans : List Plan) (vanishing : Vanishing) (setting : Settin
   pub play : Play
   pub replay : IsReplay plans vanishing setting found.turns.items play
   pub told : IsTold play
-  pub outcome : EndsSo (position_of play) found.outcome
+  pub outcome : EndsSo plans (position_of play) found.outcome
   pub ended : HaveNoTurn plans vanishing setting found.turns.items (length plans)
   pub entries : found.entries.items ≡ play.entries.items
   pub steps : map places_of found.steps.items ≡ map steps_made (stages_of play)

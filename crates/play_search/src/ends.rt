@@ -7,9 +7,10 @@ ghost use Rattle.play_search.specs.Ends.{EndsAs};
 
 use crate::outcome::outcome_of;
 use crate::replay::Ground;
+use crate::results::are_results;
 use crate::vanishing::vanished_of;
 use actor_plays::Play;
-use explore_model::{ActorOutcome, Became, Found, Outcome};
+use explore_model::{ActorOutcome, Became, Found, Outcome, Plan};
 use std::alloc::{AllocError, Global};
 
 // Whether the same became of what the same step made.
@@ -60,14 +61,21 @@ fn are_ends(one: &[ActorOutcome], other: &[ActorOutcome]) -> bool
 fn is_outcome(one: &Outcome, other: &Outcome) -> bool
     ensures { result ≡ true → ends_of other.now ≡ ends_of one.now }
 {
-    one.free == other.free && are_ends(&one.actors, &other.actors)
+    one.free == other.free
+        && are_ends(&one.actors, &other.actors)
+        && are_results(&one.results, &other.results)
 }
 
 // Whether the play, which told all nodes that fell, ends as the outcome says. Costs O(n) for each of n calls and nodes that fell.
-fn ends_so(alloc: Global, play: &Play, outcome: &Outcome) -> Result<bool, AllocError>
-    ensures { result ≡ Ok true → EndsSo (position_of play.now) outcome.now }
+fn ends_so(
+    alloc: Global,
+    plans: &[Plan],
+    play: &Play,
+    outcome: &Outcome,
+) -> Result<bool, AllocError>
+    ensures { result ≡ Ok true → EndsSo plans.now (position_of play.now) outcome.now }
 {
-    let own = outcome_of(alloc, play)?;
+    let own = outcome_of(alloc, plans, play)?;
     Ok(is_outcome(&own, outcome))
 }
 
@@ -96,5 +104,5 @@ pub(crate) fn ends_as(ground: &Ground<'_>, play: &Play, found: &Found) -> Result
     if !are_same(&vanished, &found.vanished) {
         return Ok(false);
     }
-    ends_so(ground.alloc, play, &found.outcome)
+    ends_so(ground.alloc, ground.plans, play, &found.outcome)
 }

@@ -201,7 +201,7 @@ fn vanished_in(ground: &Ground<'_>, play: &Play) -> Result<Vec<usize>, ExploreFa
 
 // What is shown of the play of this goal, in which these actors left before their end.
 fn found_of(
-    alloc: Global,
+    ground: &Ground<'_>,
     goal: &Goal,
     play: &Play,
     vanished: Vec<usize>,
@@ -211,13 +211,14 @@ fn found_of(
     ensures vanished { IfOk result (λ found. found.vanished.items ≡ vanished.items) }
     ensures steps { IfOk result
         (λ found. map places_told found.steps.items ≡ map steps_made (stages_of play.now)) }
-    ensures outcome { IfOk result (λ found. EndsSo (position_of play.now) found.outcome) }
+    ensures outcome { IfOk result
+        (λ found. EndsSo ground.now.plans.now (position_of play.now) found.outcome) }
     ensures changes { IfOk result (λ found. found.figures.changes ≡ changes goal.now.turns.items) }
 {
     let turns = goal.turns.clone()?;
-    let entries = entries_of(alloc, play)?;
-    let steps = steps_of(alloc, play.actors())?;
-    let outcome = outcome_of(alloc, play)?;
+    let entries = entries_of(ground.alloc, play)?;
+    let steps = steps_of(ground.alloc, play.actors())?;
+    let outcome = outcome_of(ground.alloc, ground.plans, play)?;
     let figures = Figures {
         changes: changes_in(&goal.turns),
         decided: goal.decided,
@@ -243,7 +244,7 @@ fn found_in(ground: &Ground<'_>, goal: &Goal, play: &Play) -> Result<Found, Expl
     ensures { IfOk result (IsFound ground.now.plans.now ground.now.vanishing ground.now.setting) }
 {
     let vanished = vanished_in(ground, play)?;
-    Ok(found_of(ground.alloc, goal, play, vanished)?)
+    Ok(found_of(ground, goal, play, vanished)?)
 }
 
 // The outcome of the play with these turns.

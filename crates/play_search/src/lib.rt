@@ -20,6 +20,7 @@ mod order;
 mod outcome;
 mod progress;
 mod replay;
+mod results;
 mod shares;
 mod turns;
 mod unmade;

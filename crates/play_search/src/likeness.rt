@@ -10,6 +10,7 @@ ghost use Rattle.play_search.specs.Vanishings.{began_early, began_in};
 
 use crate::fault::ExploreFault;
 use crate::replay::Ground;
+use crate::results::answer_alike;
 use crate::vanishing::is_done;
 use actor_plays::{Actor, Play};
 use play_likeness::plays_are_alike;
@@ -80,6 +81,9 @@ pub(crate) fn are_alike(ground: &Ground<'_>, one: &Play, other: &Play) -> Result
         (position_of one.now) (position_of other.now)) }
 {
     if !began_alike(ground, one.actors(), other.actors()) {
+        return Ok(false);
+    }
+    if !answer_alike(ground.alloc, ground.plans, one.actors(), other.actors())? {
         return Ok(false);
     }
     let alike = plays_are_alike(ground.alloc, one, other)?;

@@ -8,8 +8,9 @@ ghost use Rattle.actor_plays.specs.Moves.{position_of};
 ghost use Rattle.actor_plays.specs.Plays.{has_fired as has_fired_among, stage_of};
 ghost use Rattle.play_search.specs.Searches.{places_of, steps_made};
 
+use crate::results::results_of;
 use actor_plays::{Actor, Play};
-use explore_model::{ActorOutcome, Became, Outcome};
+use explore_model::{ActorOutcome, Became, Outcome, Plan};
 use sm_names::{Fired, Reply, TrackerId};
 use std::alloc::{AllocError, Global};
 
@@ -84,14 +85,16 @@ fn actor_outcomes(
     Ok(outcomes)
 }
 
-// What the play comes to.
-pub(crate) fn outcome_of(alloc: Global, play: &Play) -> Result<Outcome, AllocError>
-    ensures { IfOk result (EndsSo (position_of play.now)) }
+// What the play of these plans comes to.
+pub(crate) fn outcome_of(alloc: Global, plans: &[Plan], play: &Play) -> Result<Outcome, AllocError>
+    ensures { IfOk result (EndsSo plans.now (position_of play.now)) }
 {
     let actors = actor_outcomes(alloc, play, play.actors())?;
+    let results = results_of(alloc, plans, play.actors())?;
     Ok(Outcome {
         actors,
         free: play.core().free_pages(),
+        results,
     })
 }
 

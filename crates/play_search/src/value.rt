@@ -6,6 +6,7 @@ use crate::falls::{NamedFall, has_name};
 use crate::numbers::{small, small_of};
 use crate::outcome::has_fired;
 use crate::replay::Ground;
+use crate::results::results_of;
 use crate::vanishing::is_early;
 use actor_plays::{Actor, Play, VanishProgress};
 use actor_scripts::ActorObject;
@@ -396,6 +397,15 @@ fn put_actors(
     Ok(())
 }
 
+// Puts the answers to what the plans ask.
+fn put_results(text: &mut Vec<u8>, ground: &Ground<'_>, play: &Play) -> Result<(), AllocError> {
+    let results = results_of(ground.alloc, ground.plans, play.actors())?;
+    for result in &results {
+        put(text, result.so as u32)?;
+    }
+    Ok(())
+}
+
 // The value of a play, where these nodes fell in it.
 pub(crate) fn value_of(
     ground: &Ground<'_>,
@@ -405,6 +415,7 @@ pub(crate) fn value_of(
 ) -> Result<Vec<u8>, AllocError> {
     let queues = parcels_of(ground.alloc, play.actors(), play.entries())?;
     let mut text = Vec::with_capacity(ground.alloc, 256)?;
+    put_results(&mut text, ground, play)?;
     put_falls(&mut text, falls)?;
     put_actors(&mut text, ground, births, play, &queues)?;
     put_core(&mut text, births, play.core())?;
@@ -476,6 +487,7 @@ pub(crate) fn ending_of(
     play: &Play,
 ) -> Result<Vec<u8>, AllocError> {
     let mut text = Vec::new(ground.alloc);
+    put_results(&mut text, ground, play)?;
     put_falls(&mut text, falls)?;
     let actors = play.actors();
     for actor in 0..actors.len() {

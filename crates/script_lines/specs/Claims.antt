@@ -1,7 +1,7 @@
 -- What the words of a claim say.
 use Rattle.std.specs.Prelude.{ℕ, ◌+◌, ◌==◌, ◌&&◌, nat_eq, not, Bool, if◌then◌else◌, List, [], ◌∷◌, take, drop, codes, Option, Some, None}
 use Rattle.std.specs.List.{position, starts_with}
-use Rattle.std.specs.Option.{option_and_then, option_map}
+use Rattle.std.specs.Option.{option_and_then, option_map, option_map_or}
 use Rattle.std.specs.Str.{bytes_eq}
 use Rattle.sm_names.specs.declared.outcomes.Failure.{Failure}
 use Rattle.sm_names.specs.declared.outcomes.Misuse.{Misuse}
@@ -10,6 +10,7 @@ use Rattle.script_lines.specs.Labels.{label_of}
 use Rattle.script_lines.specs.Lines.{at_end}
 use Rattle.script_lines.specs.Numbers.{number_of}
 use Rattle.script_lines.specs.Words.{words}
+use Rattle.script_lines.specs.declared.claim.CallFact.{CallFact}
 use Rattle.script_lines.specs.declared.claim.Claim.{Claim}
 use Rattle.script_lines.specs.declared.claim.Fact.{Fact}
 use Rattle.script_lines.specs.declared.claim.NodeFact.{NodeFact}
@@ -130,15 +131,48 @@ node_said node verb rest = option_and_then
     (λ (name : NodeName). option_map (λ (fact : NodeFact). Fact.Node name fact) (node_fact_of verb rest))
     (name_of node)
 
--- the fact, by its subject, its verb and the words behind it
-abbrev pub said_by : List ℕ → List ℕ → List (List ℕ) → Option Fact
-said_by subject verb rest =
+-- the number that is the one word left
+abbrev pub last_number : List (List ℕ) → Option ℕ
+last_number [] = None
+last_number (word ∷ rest) = at_end rest (number_of word)
+
+-- what is said of a client and the number behind
+abbrev pub client_said : (Label → ℕ → Fact) → List ℕ → List (List ℕ) → Option Fact
+client_said fact client rest = option_and_then (λ (label : Label). option_map (fact label) (last_number rest)) (label_of client)
+
+-- what is said of a call, by its word
+abbrev pub call_fact_named : List ℕ → Option CallFact
+call_fact_named word =
+    let skipped : Option CallFact = if bytes_eq word (codes "skipped") then Some CallFact.Skipped else None in
+    let pending : Option CallFact = if bytes_eq word (codes "pending") then Some CallFact.Pending else skipped in
+    if bytes_eq word (codes "refused") then Some CallFact.Refused else pending
+
+-- a fact of the call on the line of this number
+abbrev pub line_said : ℕ → List (List ℕ) → Option Fact
+line_said number [] = None
+line_said number (word ∷ rest) = at_end rest (option_map (Fact.Line number) (call_fact_named word))
+
+-- the number of a line, by the words `line` and a number
+abbrev pub line_numbered : List ℕ → List ℕ → Option ℕ
+line_numbered subject verb = if bytes_eq subject (codes "line") then number_of verb else None
+
+-- a fact of a client, a node or a tracker, by its name, its verb and the words behind it
+abbrev pub subject_said : List ℕ → List ℕ → List (List ℕ) → Option Fact
+subject_said subject verb rest =
     let fires : Option Fact = if bytes_eq verb (codes "fires")
     then at_end rest (option_map (λ (name : NodeName). Fact.Fires name) (name_of subject)) else node_said subject verb rest in
     let waits : Option Fact = if bytes_eq verb (codes "waits")
     then at_end rest (option_map (λ (client : Label). Fact.Waits client) (label_of subject)) else fires in
+    let holds : Option Fact = if bytes_eq verb (codes "holds") then client_said Fact.Holds subject rest else waits in
+    if bytes_eq verb (codes "gets") then client_said Fact.Gets subject rest else holds
+
+-- the fact, by its subject, its verb and the words behind it
+abbrev pub said_by : List ℕ → List ℕ → List (List ℕ) → Option Fact
+said_by subject verb rest =
+    let said : Option Fact =
+    option_map_or (λ (number : ℕ). line_said number rest) (line_numbered subject verb) (subject_said subject verb rest) in
     if bytes_eq subject (codes "free")
-    then at_end rest (option_map (λ (pages : ℕ). Fact.Free pages) (number_of verb)) else waits
+    then at_end rest (option_map (λ (pages : ℕ). Fact.Free pages) (number_of verb)) else said
 
 -- the fact of these words
 abbrev pub fact_behind : List ℕ → List (List ℕ) → Option Fact

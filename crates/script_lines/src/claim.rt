@@ -49,6 +49,17 @@ pub enum NodeFact {
     Pending,
 }
 
+/// What is said of the call of a step.
+#[derive(Clone, Copy)]
+pub enum CallFact {
+    /// It is refused.
+    Refused,
+    /// It is answered Pending.
+    Pending,
+    /// It is not made.
+    Skipped,
+}
+
 /// What is said of an outcome.
 #[derive(Clone, Copy)]
 pub enum Fact {
@@ -60,6 +71,12 @@ pub enum Fact {
     Fires(NodeName),
     /// So many pages are free.
     Free(u32),
+    /// A Check or a Take of the client is answered with so many buffers.
+    Gets(Label, u32),
+    /// The client holds so many handles at the end.
+    Holds(Label, u32),
+    /// Of the call of the step on the line of this number.
+    Line(u32, CallFact),
 }
 
 /// A claim: a fact, and in which outcomes it is to be.

@@ -8,9 +8,9 @@ ghost use Rattle.script_lines.specs.Numbers.{number_of};
 ghost use Rattle.script_lines.specs.Words.{words_left};
 ghost use Rattle.script_lines.specs.declared.claim.Fact.{Fact as FactTold};
 ghost use Rattle.script_lines.specs.declared.claim.NodeName.{NodeName as Name};
-ghost use Rattle.script_lines.specs.Claims.{claim_behind, claim_of, fact_behind, fact_of, failed_by as failed_told, failure_named as failure_told, failure_of, fails_by as fails_told, full_name as full_told, is_claim_line, is_claim_word, misuse_named as misuse_told, misused_by as misused_told, name_of as name_told, node_fact_of, node_said as node_told, often_named as often_told, origin_of, plain_name as plain_told, said_by as said_told};
+ghost use Rattle.script_lines.specs.Claims.{call_fact_named as call_fact_told, claim_behind, claim_of, client_said, fact_behind, fact_of, failed_by as failed_told, failure_named as failure_told, failure_of, fails_by as fails_told, full_name as full_told, is_claim_line, is_claim_word, last_number as last_told, line_numbered as line_told, line_said as call_said, misuse_named as misuse_told, misused_by as misused_told, name_of as name_told, node_fact_of, node_said as node_told, often_named as often_told, origin_of, plain_name as plain_told, said_by as said_told, subject_said};
 
-use crate::claim::{Claim, Fact, NodeFact, NodeName, Often, SaidCause};
+use crate::claim::{CallFact, Claim, Fact, NodeFact, NodeName, Often, SaidCause};
 use crate::label::Label;
 use crate::number::number as read_number;
 use crate::words::{cut, is_word, next_word, place_of};
@@ -104,13 +104,99 @@ fn said_by(subject: &[u8], verb: &[u8], rest: Option<&[u8]>) -> Option<Fact>
     if is_word(subject, "free") {
         return free(verb, rest);
     }
-    if is_word(verb, "waits") {
-        return waits(subject, rest);
+    match line_numbered(subject, verb) {
+        Some(number) => line_said(number, rest),
+        None => said_of(subject, verb, rest),
     }
-    if is_word(verb, "fires") {
-        return fires(subject, rest);
+}
+
+// The same, where the subject is a client, a node or a tracker.
+fn said_of(subject: &[u8], verb: &[u8], rest: Option<&[u8]>) -> Option<Fact>
+    ensures { result ≡ subject_said subject.now verb.now (words_left rest.entry) }
+{
+    if is_word(verb, "gets") {
+        gets(subject, rest)
+    } else if is_word(verb, "holds") {
+        holds(subject, rest)
+    } else if is_word(verb, "waits") {
+        waits(subject, rest)
+    } else if is_word(verb, "fires") {
+        fires(subject, rest)
+    } else {
+        node_said(subject, verb, rest)
     }
-    node_said(subject, verb, rest)
+}
+
+// The number of the line that these words name.
+fn line_numbered(subject: &[u8], verb: &[u8]) -> Option<u32>
+    ensures { result ≡ line_told subject.now verb.now }
+{
+    if is_word(subject, "line") {
+        read_number(verb)
+    } else {
+        None
+    }
+}
+
+// What is said of the call on the line of this number.
+fn line_said(number: u32, rest: Option<&[u8]>) -> Option<Fact>
+    ensures { result ≡ call_said number (words_left rest.entry) }
+{
+    match next_word(rest) {
+        Some((word, rest)) => match (next_word(rest), call_fact_named(word)) {
+            (None, Some(fact)) => Some(Fact::Line(number, fact)),
+            _ => None,
+        },
+        None => None,
+    }
+}
+
+// What is said of a call, by its word.
+fn call_fact_named(word: &[u8]) -> Option<CallFact>
+    ensures { result ≡ call_fact_told word.now }
+{
+    if is_word(word, "refused") {
+        Some(CallFact::Refused)
+    } else if is_word(word, "pending") {
+        Some(CallFact::Pending)
+    } else if is_word(word, "skipped") {
+        Some(CallFact::Skipped)
+    } else {
+        None
+    }
+}
+
+// The number that is the one word left.
+fn last_number(rest: Option<&[u8]>) -> Option<u32>
+    ensures { result ≡ last_told (words_left rest.entry) }
+{
+    match next_word(rest) {
+        Some((word, rest)) => match (next_word(rest), read_number(word)) {
+            (None, Some(number)) => Some(number),
+            _ => None,
+        },
+        None => None,
+    }
+}
+
+// The client gets so many buffers.
+fn gets(word: &[u8], rest: Option<&[u8]>) -> Option<Fact>
+    ensures { result ≡ client_said FactTold.Gets word.now (words_left rest.entry) }
+{
+    match (Label::new(word), last_number(rest)) {
+        (Some(client), Some(count)) => Some(Fact::Gets(client, count)),
+        _ => None,
+    }
+}
+
+// It holds so many handles.
+fn holds(word: &[u8], rest: Option<&[u8]>) -> Option<Fact>
+    ensures { result ≡ client_said FactTold.Holds word.now (words_left rest.entry) }
+{
+    match (Label::new(word), last_number(rest)) {
+        (Some(client), Some(count)) => Some(Fact::Holds(client, count)),
+        _ => None,
+    }
 }
 
 // So many pages are free.

@@ -19,7 +19,7 @@ mod words;
 mod writing;
 
 pub use buffer_label::BufferLabel;
-pub use claim::{Claim, Fact, NodeFact, NodeName, Often, SaidCause};
+pub use claim::{CallFact, Claim, Fact, NodeFact, NodeName, Often, SaidCause};
 pub use claim_parser::{is_claim, read_claim};
 pub use client_list::{are_clients, is_among, listed, vanish_text};
 pub use hashing::LabelHash;

@@ -5,5 +5,5 @@ use Rattle.alike_plays.proofs.Reaching.{reached_seen}
 use Rattle.alike_plays.proofs.laws.alike_plays_end_alike.Goals as goal
 
 pub returns : goal.returns
-returns c setup one other reached alike =
-    ends-same (λ place at. false) one other (reached_seen setup one reached) (exactly_ahead (λ place at. false) one other alike)
+returns c setup plans one other reached alike same =
+    ends-same (λ place at. false) one other (reached_seen setup one reached) (exactly_ahead (λ place at. false) one other alike) plans same

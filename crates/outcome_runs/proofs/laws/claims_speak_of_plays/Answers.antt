@@ -4,7 +4,7 @@ use Rattle.outcome_runs.proofs.laws.claims_speak_of_plays.Goals as goal
 
 -- they end the same
 pub returns-clause-outcome : goal.returns-clause-outcome
-returns-clause-outcome c telling fact p outcome ends = ap (has_fact telling fact) ends
+returns-clause-outcome c telling fact plans p outcome ends = ap (has_fact telling fact) ends
 
 -- the play ends as one of them says
 pub returns-clause-all : goal.returns-clause-all

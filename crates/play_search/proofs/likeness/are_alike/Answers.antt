@@ -2,6 +2,7 @@ use Rattle.std.proofs.Common.{◌≡◌, ℕ, List, Ok, ap, map, refl, subst}
 use Rattle.actor_plays.specs.declared.actor.Actor.{Actor}
 use Rattle.actor_plays.specs.Plays.{stage_of}
 use Rattle.actor_plays.specs.Positions.{left_at}
+use Rattle.actor_plays.specs.Queries.{results_at}
 use Rattle.alike_plays.specs.Ahead.{early_in}
 use Rattle.play_search.specs.Vanishings.{began_early}
 use Rattle.play_search.proofs.likeness.are_alike.Goals as goal
@@ -11,9 +12,16 @@ pub returns : goal.returns
 returns c = λ yes.
     let early = began_early c.args.ground.now.vanishing.at_end c.args.ground.now.plans.now in
     record {
-      alike = c.in_ok-alike.ensures (ap Ok yes);
-      began = subst (λ (l : List Actor). (place : ℕ) → early_in early (map left_at (map stage_of l)) place
-          ≡ early_in early (map left_at (map stage_of c.args.one.now.actors.items)) place) c.actors-2.ensures
-          (subst (λ (l : List Actor). (place : ℕ) → early_in early (map left_at (map stage_of c.actors-2.result.now)) place
-          ≡ early_in early (map left_at (map stage_of l)) place) c.actors.ensures (c.if-not-began_alike.ensures refl));
+      ahead_alike = record {
+        alike = c.in_ok-alike.ensures (ap Ok yes);
+        began = subst (λ (l : List Actor). (place : ℕ) → early_in early (map left_at (map stage_of l)) place
+            ≡ early_in early (map left_at (map stage_of c.args.one.now.actors.items)) place) c.actors-2.ensures
+            (subst (λ (l : List Actor). (place : ℕ) → early_in early (map left_at (map stage_of c.actors-2.result.now)) place
+            ≡ early_in early (map left_at (map stage_of l)) place) c.actors.ensures (c.if-not-began_alike.ensures refl));
+      };
+      results = subst (λ (l : List Actor). (actor : ℕ) → results_at c.args.ground.now.plans.now (map stage_of l) actor
+          ≡ results_at c.args.ground.now.plans.now (map stage_of c.args.one.now.actors.items) actor) c.actors-4.ensures
+          (subst (λ (l : List Actor). (actor : ℕ) → results_at c.args.ground.now.plans.now (map stage_of c.actors-4.result.now) actor
+          ≡ results_at c.args.ground.now.plans.now (map stage_of l) actor) c.actors-3.ensures
+          (c.in_ok-answer_alike.ensures c.if-not-branch.false));
     }
