@@ -13,6 +13,7 @@ mod falls;
 mod fault;
 mod graph;
 mod idle;
+mod keys;
 mod likeness;
 mod next;
 mod numbers;

@@ -7,8 +7,9 @@ use crate::births::Births;
 use crate::falls::{NamedFall, falls_of};
 use crate::fault::ExploreFault;
 use crate::idle::is_idle;
+use crate::keys::key_where;
 use crate::replay::Ground;
-use crate::value::{ending_of, level_of, value_of};
+use crate::value::{ending_of, level_of};
 use crate::vanishing::{may_leave, must_leave, vanished_of};
 use actor_plays::{Actor, Play, Turned};
 use explore_model::Turn;
@@ -38,7 +39,9 @@ pub(crate) fn met_in(
     ground: &Ground<'_>,
     before: &[NamedFall],
     play: &Play,
-) -> Result<Met, AllocError> {
+) -> Result<Met, AllocError>
+    requires { IsPlay ground.now.plans.now play.now }
+{
     let births = Births::of(ground, play)?;
     met_by(ground, before, &births, play)
 }
@@ -49,10 +52,12 @@ fn met_by(
     before: &[NamedFall],
     births: &Births,
     play: &Play,
-) -> Result<Met, AllocError> {
+) -> Result<Met, AllocError>
+    requires { IsPlay ground.now.plans.now play.now }
+{
     let level = level_of(ground.alloc, play.actors())?;
     let falls = falls_of(ground.alloc, before, births, play)?;
-    let value = value_of(ground, births, &falls, play)?;
+    let value = key_where(ground, &falls, play)?;
     Ok(Met {
         value,
         falls,

@@ -1,0 +1,12 @@
+pub mod Reading
+pub mod Naming
+pub mod Placing
+pub mod Listing
+pub mod CoreReading
+pub mod PlayReading
+pub mod NewNames
+pub mod Alike
+pub mod Ahead
+pub mod Covering
+pub mod Each
+pub mod Putting

@@ -1,0 +1,10 @@
+use Rattle.std.proofs.Common.{◌≡◌, ◌++◌, take}
+use Rattle.std.specs.List.{flat_map}
+use Rattle.explore_keys.specs.CoreCodes.{buffer_code}
+use Rattle.explore_keys.specs.PlayCodes.{pair_code, totals}
+use Rattle.explore_keys.specs.Puts.{names_of}
+use Rattle.explore_keys.proofs.counts.put_totals.Given as goal
+
+-- so far those of these
+abbrev pub invariant-loop-buffer : goal.invariant-loop-buffer
+invariant-loop-buffer l = l.text.items ≡ l.initial.text.items ++ flat_map (λ b. buffer_code (names_of l.names) b ++ pair_code (totals l.core.holds b)) (take l.buffer-index l.buffers)

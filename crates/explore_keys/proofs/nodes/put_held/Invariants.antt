@@ -1,0 +1,9 @@
+use Rattle.std.proofs.Common.{◌≡◌, ◌++◌, take}
+use Rattle.std.specs.List.{flat_map}
+use Rattle.explore_keys.specs.CoreCodes.{held_code}
+use Rattle.explore_keys.specs.Puts.{names_of}
+use Rattle.explore_keys.proofs.nodes.put_held.Given as goal
+
+-- so far those of these
+abbrev pub invariant-loop-one : goal.invariant-loop-one
+invariant-loop-one l = l.text.items ≡ l.initial.text.items ++ flat_map (held_code (names_of l.names)) (take l.one-index l.held)
