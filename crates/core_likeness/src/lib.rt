@@ -10,12 +10,10 @@ pub mod laws;
 mod matching;
 mod names;
 mod nodes;
-pub mod readings;
+mod readings;
 mod sameness;
 mod tracking;
 
 pub use cores::cores_are_alike;
-pub use matching::are_mixed;
 pub use names::Names;
 pub use sameness::{is_new_failure, is_new_fault, is_new_key, is_strength};
-pub use tracking::{are_new_trackers, old_numbers, waiting};

@@ -15,8 +15,8 @@ fn place_of(numbers: &[u64], number: u64) -> Option<usize>
     None
 }
 
-/// Whether the second list has the numbers of the first, each as often. Costs O(n²) for n numbers.
-pub fn are_mixed(one: &[u64], mut other: Vec<u64>) -> bool
+// Whether the second list has the numbers of the first, each as often.
+pub(crate) fn are_mixed(one: &[u64], mut other: Vec<u64>) -> bool
     ensures { result ≡ true → Mixed one.now other.items }
 {
     for number in one {

@@ -1,5 +1,5 @@
 //! New names.
-ghost use Rattle.std.specs.Prelude.{◌≡◌, [], OnOk};
+ghost use Rattle.std.specs.Prelude.{◌≡◌, OnOk};
 ghost use Rattle.sm_names.specs.Sameness.{same_key};
 ghost use Rattle.core_likeness.specs.Naming.{new_id, new_key, new_number, same_number, swapped, under};
 
@@ -67,11 +67,7 @@ fn swap_keys(swaps: &[(NodeKey, NodeKey)], key: NodeKey) -> NodeKey
 
 impl Names {
     /// The old names.
-    pub fn new(alloc: Global) -> Names
-        ensures keys { result.keys.items ≡ [] }
-        ensures ids { result.ids.items ≡ [] }
-        ensures numbers { result.numbers.items ≡ [] }
-    {
+    pub fn new(alloc: Global) -> Names {
         Names {
             keys: Vec::new(alloc),
             ids: Vec::new(alloc),

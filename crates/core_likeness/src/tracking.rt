@@ -63,8 +63,8 @@ fn place_of(trackers: &[Attached], one: Attached, names: &Names) -> Option<usize
     None
 }
 
-/// Whether the others are the ones under new names, in whatever order. Costs O(n² k) for n trackers and k new names.
-pub fn are_new_trackers(one: &[Attached], mut other: Vec<Attached>, names: &Names) -> bool
+// Whether the others are the ones under new names, in whatever order.
+fn are_new_trackers(one: &[Attached], mut other: Vec<Attached>, names: &Names) -> bool
     ensures { result ≡ true → Mixed (map (λ a. tracker_renamed (new_key names.now)
         (new_id names.now) (new_number names.now) (tracked_of a)) one.now)
         (map tracked_of other.items) }
@@ -80,10 +80,8 @@ pub fn are_new_trackers(one: &[Attached], mut other: Vec<Attached>, names: &Name
     other.is_empty()
 }
 
-/// The trackers of the core that wait. Costs O(n (n + f)) for n entries and f firings.
-///
-/// `NoMemory` if the list is refused.
-pub fn waiting(
+// The trackers of the core that wait.
+fn waiting(
     alloc: Global,
     core: &Core,
     entries: &[(ClientId, Call, Reply)],
@@ -134,10 +132,8 @@ fn new_numbers(alloc: Global, names: &Names, fired: &[Fired]) -> Result<Vec<Trac
     Ok(numbers)
 }
 
-/// The numbers of the trackers that fired. Costs O(f) for f firings.
-///
-/// `NoMemory` if the list is refused.
-pub fn old_numbers(alloc: Global, fired: &[Fired]) -> Result<Vec<TrackerId>, NoMemory>
+// The numbers of the trackers that fired.
+fn old_numbers(alloc: Global, fired: &[Fired]) -> Result<Vec<TrackerId>, NoMemory>
     ensures { IfOk result (λ numbers. numbers.items
         ≡ map (λ (f : Firing). f.tracker) fired.now) }
 {

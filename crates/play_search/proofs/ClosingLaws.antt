@@ -1,5 +1,5 @@
 -- When no turn leads out of the ways that a search met.
-use Rattle.std.proofs.Common.{ℕ, zero, suc, ◌≡◌, ◌<◌, ◌⊎◌, inl, inr, refl, ap, sym, subst, ◌∙◌, true, false, ◌&&◌, List, [], ◌∷◌, length, Some}
+use Rattle.std.proofs.Common.{ℕ, zero, suc, ◌≡◌, ◌<◌, ◌⊎◌, inl, inr, refl, ap, sym, subst, ◌∙◌, true, false, ◌&&◌, List, [], ◌∷◌, length}
 use Rattle.std.proofs.Common.{Option, slice_get, ◌+◌, add-one, arith, le_of_suc-le-suc}
 use Rattle.std.proofs.Math.Nat.{eq-or-lt_of_le}
 use Rattle.std.specs.Option.{option_and_then, option_map_or}
@@ -25,10 +25,6 @@ use Rattle.alike_plays.proofs.SameTurns.{last_none, same_turns, way_met}
 use Rattle.play_search.specs.declared.graph.Row.{Row}
 use Rattle.play_search.specs.declared.replay.Setting.{Setting}
 use Rattle.explore_model.specs.declared.found.Vanishing.{Vanishing}
-use Rattle.actor_plays.specs.Plays.{IsPlay}
-use Rattle.explore_keys.specs.Values.{IsValue}
-use Rattle.explore_keys.proofs.Ahead.{values-alike}
-use Rattle.play_search.specs.Closing.{AreValued}
 use Rattle.play_search.specs.Closing.{AlikeIn, AreAllMet, AreClosedIn, IsBack, IsBackIn, IsRowTriedIn, way_to, ways_first, ways_of}
 use Rattle.play_search.specs.Searches.{IsReplay, is_made, setup_of}
 use Rattle.play_search.specs.Vanishings.{began_early, may_begin}
@@ -212,25 +208,6 @@ is_back plans vanishing setting rows to play other less is alike = record {
   is_at = record { reached = is.reached; rests = is.rests };
   alike = alike;
 }
-
--- The play is like that of the way to the value that it has.
-pub back_by_value : (plans : List Plan) (vanishing : Vanishing) (setting : Setting) (rows : List Row) (values : List (List ℕ)) (to : ℕ)
-    (play : Play) (text : List ℕ) → to < length rows → slice_get values to ≡ Some text → IsPlay plans play →
-    IsValue (began_early vanishing.at_end plans) text play.entries.items (position_of play) → play.core.pool ≡ setting.pages →
-    play.core.limits ≡ setting.limits → AreValued plans vanishing setting rows values → IsBackIn plans vanishing setting rows (position_of
-    play)
-back_by_value plans vanishing setting rows values to play text less stands is value pool limits valued =
-    let row = valued to less in
-    let same : row.text ≡ text = some-injective row.text text (sym row.stands ∙ stands) in
-    record {
-      way = way_to rows to;
-      met = way_in rows (length rows) to less;
-      row = row.p;
-      is_at = row.is_at;
-      alike = values-alike (began_early vanishing.at_end plans) (position_of play) row.p play.entries.items row.history is.shows row.shows
-          (row.pool ∙ sym pool) (row.limits ∙ sym limits) text value
-          (subst (λ (t : List ℕ). IsValue (began_early vanishing.at_end plans) t row.history row.p) same row.value);
-    }
 
 -- Where no turn was made, actors passed on from a start.
 from_start : (setup : Setup) (turns : List Turn) (p : Position) → ReachedBy setup turns p → turns ≡ [] →

@@ -1,11 +1,7 @@
 -- The ways to the values that a search met, out of which no turn leads.
-use Rattle.std.specs.Prelude.{◌≡◌, ◌<◌, ℕ, zero, suc, ◌==◌, ◌/◌, ◌%◌, if◌then◌else◌, List, [], ◌∷◌, ◌++◌, length, map, slice_get, Some, Vec}
-use Rattle.std.specs.declared.alloc.Global.{Global}
+use Rattle.std.specs.Prelude.{◌≡◌, ◌<◌, ℕ, zero, suc, ◌==◌, ◌/◌, ◌%◌, if◌then◌else◌, List, [], ◌∷◌, ◌++◌, length, slice_get}
 use Rattle.std.specs.Option.{option_map_or}
 use Rattle.sm_names.specs.Elements.{In}
-use Rattle.sm_names.specs.Marks.{Entry}
-use Rattle.core_state.specs.Shown.{Shows}
-use Rattle.explore_keys.specs.Values.{IsValue}
 use Rattle.explore_model.specs.declared.plan.Plan.{Plan}
 use Rattle.explore_model.specs.declared.found.Turn.{Turn}
 use Rattle.actor_plays.specs.Positions.{Position, Reached, Rests, Setup}
@@ -56,27 +52,6 @@ pub record IsBack (setup : Setup) (Like : Position → Position → Type 0) (way
 -- the same in a search with these rows
 abbrev pub IsBackIn : List Plan → Vanishing → Setting → List Row → Position → Type 0
 IsBackIn plans vanishing setting rows p = IsBack (setup_of plans vanishing setting) (AlikeIn plans vanishing) (ways_of rows) p
-
--- the bytes of the values
-abbrev pub texts_of : List (Vec ℕ Global) → List (List ℕ)
-texts_of values = map (λ (v : Vec ℕ Global). v.items) values
-
--- a play came by the way to the value of this row to where it has that value
-pub record IsValued (plans : List Plan) (vanishing : Vanishing) (setting : Setting) (rows : List Row) (values : List (List ℕ)) (at : ℕ) : Type 0
-  where
-    pub p : Position
-    pub is_at : IsAt (setup_of plans vanishing setting) (way_to rows at) p
-    pub history : List Entry
-    pub shows : Shows p.core history
-    pub pool : p.core.pool ≡ setting.pages
-    pub limits : p.core.limits ≡ setting.limits
-    pub text : List ℕ
-    pub stands : slice_get values at ≡ Some text
-    pub value : IsValue (began_early vanishing.at_end plans) text history p
-
--- the same of all rows
-abbrev pub AreValued : List Plan → Vanishing → Setting → List Row → List (List ℕ) → Type 0
-AreValued plans vanishing setting rows values = (at : ℕ) → at < length rows → IsValued plans vanishing setting rows values at
 
 -- the call of the actor's next step leads back from the value of this row, or has to wait
 abbrev pub IsCallTriedIn : List Plan → Vanishing → Setting → List Row → ℕ → ℕ → Type 0

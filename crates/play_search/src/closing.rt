@@ -2,12 +2,12 @@
 ghost use Rattle.std.specs.Prelude.{◌≡◌, ◌<◌, ℕ, length, true, IfOk, None};
 ghost use Rattle.actor_plays.specs.Moves.{position_of};
 ghost use Rattle.actor_plays.specs.Plays.{IsPlay};
-ghost use Rattle.play_search.specs.Closing.{AreAllTriedIn, AreClosedIn, AreTriedIn, AreValued, IsBackIn, IsCallTriedIn, IsLeaveTriedIn, IsRowTriedIn};
-ghost use Rattle.play_search.specs.Closing.{IsValued, texts_of, way_to};
+ghost use Rattle.play_search.specs.Closing.{AreAllTriedIn, AreClosedIn, AreTriedIn, IsBackIn, IsCallTriedIn, IsLeaveTriedIn, IsRowTriedIn, way_to};
 ghost use Rattle.play_search.specs.Searches.{IsPool, IsReplay};
 
 use crate::fault::ExploreFault;
 use crate::graph::Graph;
+use crate::likeness::are_alike;
 use crate::replay::{Ground, is_made, replay};
 use crate::turns::code_of;
 use crate::vanishing::may_go;
@@ -109,10 +109,8 @@ impl Graph {
     ) -> Result<bool, ExploreFault>
         requires pages { IsPool ground.now.setting.pages }
         requires plays { IsPlay ground.now.plans.now play.now }
-        requires pool { play.now.core.pool ≡ ground.now.setting.pages }
         requires limits { play.now.core.limits ≡ ground.now.setting.limits }
-        ensures { IfOk result (λ yes. yes ≡ true → AreValued ground.now.plans.now ground.now.vanishing
-            ground.now.setting self.now.rows.items (texts_of self.now.values.keys) →
+        ensures { IfOk result (λ yes. yes ≡ true →
             IsBackIn ground.now.plans.now ground.now.vanishing ground.now.setting
             self.now.rows.items (position_of play.now)) }
     {
@@ -122,8 +120,9 @@ impl Graph {
         if !self.is_met(to) {
             return Ok(false);
         }
-        let value = self.is_value(ground, play, to)?;
-        Ok(value)
+        let other = self.replay_to(ground, to)?;
+        let alike = are_alike(ground, play, &other)?;
+        Ok(alike)
     }
 
     // Whether the call of the actor's next step leads from the value at this place, at which the play stands, to one that was
@@ -138,8 +137,7 @@ impl Graph {
         requires pages { IsPool ground.now.setting.pages }
         requires here { IsReplay ground.now.plans.now ground.now.vanishing ground.now.setting
             (way_to self.now.rows.items at) here.now }
-        ensures { IfOk result (λ yes. yes ≡ true → AreValued ground.now.plans.now ground.now.vanishing
-            ground.now.setting self.now.rows.items (texts_of self.now.values.keys) →
+        ensures { IfOk result (λ yes. yes ≡ true →
             IsCallTriedIn ground.now.plans.now ground.now.vanishing ground.now.setting
             self.now.rows.items at actor) }
     {
@@ -164,8 +162,7 @@ impl Graph {
         requires pages { IsPool ground.now.setting.pages }
         requires here { IsReplay ground.now.plans.now ground.now.vanishing ground.now.setting
             (way_to self.now.rows.items at) play.old }
-        ensures { IfOk result (λ yes. yes ≡ true → AreValued ground.now.plans.now ground.now.vanishing
-            ground.now.setting self.now.rows.items (texts_of self.now.values.keys) →
+        ensures { IfOk result (λ yes. yes ≡ true →
             IsCallTriedIn ground.now.plans.now ground.now.vanishing ground.now.setting
             self.now.rows.items at actor) }
     {
@@ -189,8 +186,7 @@ impl Graph {
         requires pages { IsPool ground.now.setting.pages }
         requires here { IsReplay ground.now.plans.now ground.now.vanishing ground.now.setting
             (way_to self.now.rows.items at) here.now }
-        ensures { IfOk result (λ yes. yes ≡ true → AreValued ground.now.plans.now ground.now.vanishing
-            ground.now.setting self.now.rows.items (texts_of self.now.values.keys) →
+        ensures { IfOk result (λ yes. yes ≡ true →
             IsLeaveTriedIn ground.now.plans.now ground.now.vanishing ground.now.setting
             self.now.rows.items at actor) }
     {
@@ -213,8 +209,7 @@ impl Graph {
         requires pages { IsPool ground.now.setting.pages }
         requires here { IsReplay ground.now.plans.now ground.now.vanishing ground.now.setting
             (way_to self.now.rows.items at) play.old }
-        ensures { IfOk result (λ yes. yes ≡ true → AreValued ground.now.plans.now ground.now.vanishing
-            ground.now.setting self.now.rows.items (texts_of self.now.values.keys) →
+        ensures { IfOk result (λ yes. yes ≡ true →
             IsLeaveTriedIn ground.now.plans.now ground.now.vanishing ground.now.setting
             self.now.rows.items at actor) }
     {
@@ -264,8 +259,7 @@ impl Graph {
         requires pages { IsPool ground.now.setting.pages }
         requires here { IsReplay ground.now.plans.now ground.now.vanishing ground.now.setting
             (way_to self.now.rows.items at) here.now }
-        ensures { IfOk result (λ doubt. doubt ≡ None → AreValued ground.now.plans.now ground.now.vanishing
-            ground.now.setting self.now.rows.items (texts_of self.now.values.keys) →
+        ensures { IfOk result (λ doubt. doubt ≡ None →
             AreTriedIn ground.now.plans.now ground.now.vanishing ground.now.setting
             self.now.rows.items at actor) }
     {
@@ -288,8 +282,7 @@ impl Graph {
         requires pages { IsPool ground.now.setting.pages }
         requires here { IsReplay ground.now.plans.now ground.now.vanishing ground.now.setting
             (way_to self.now.rows.items at) here.now }
-        ensures { IfOk result (λ doubt. doubt ≡ None → AreValued ground.now.plans.now ground.now.vanishing
-            ground.now.setting self.now.rows.items (texts_of self.now.values.keys) →
+        ensures { IfOk result (λ doubt. doubt ≡ None →
             AreAllTriedIn ground.now.plans.now ground.now.vanishing ground.now.setting
             self.now.rows.items at (length ground.now.plans.now)) }
     {
@@ -304,19 +297,11 @@ impl Graph {
     // The same by a play that is made again.
     fn row_doubt(&self, ground: &Ground<'_>, at: usize) -> Result<Option<Doubt>, ExploreFault>
         requires { IsPool ground.now.setting.pages }
-        ensures valued { IfOk result (λ doubt. doubt ≡ None →
-            IsValued ground.now.plans.now ground.now.vanishing ground.now.setting
-            self.now.rows.items (texts_of self.now.values.keys) at) }
-        ensures tried { IfOk result (λ doubt. doubt ≡ None → AreValued ground.now.plans.now ground.now.vanishing
-            ground.now.setting self.now.rows.items (texts_of self.now.values.keys) →
+        ensures { IfOk result (λ doubt. doubt ≡ None →
             IsRowTriedIn ground.now.plans.now ground.now.vanishing ground.now.setting
             self.now.rows.items at) }
     {
         let here = self.replay_to(ground, at)?;
-        let value = self.is_value(ground, &here, at)?;
-        if !value {
-            return Ok(Some(Doubt::Incomplete));
-        }
         let doubt = self.actors_doubt(ground, &here, at)?;
         Ok(doubt)
     }
@@ -324,11 +309,7 @@ impl Graph {
     // The first turn that leads out of what was met, from any value.
     fn rows_doubt(&self, ground: &Ground<'_>) -> Result<Option<Doubt>, ExploreFault>
         requires { IsPool ground.now.setting.pages }
-        ensures valued { IfOk result (λ doubt. doubt ≡ None → AreValued ground.now.plans.now
-            ground.now.vanishing ground.now.setting self.now.rows.items (texts_of self.now.values.keys)) }
-        ensures tried { IfOk result (λ doubt. doubt ≡ None → AreValued ground.now.plans.now ground.now.vanishing
-            ground.now.setting self.now.rows.items (texts_of self.now.values.keys) →
-            (at : ℕ) → at < length self.now.rows.items →
+        ensures { IfOk result (λ doubt. doubt ≡ None → (at : ℕ) → at < length self.now.rows.items →
             IsRowTriedIn ground.now.plans.now ground.now.vanishing ground.now.setting
             self.now.rows.items at) }
     {

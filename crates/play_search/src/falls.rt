@@ -1,7 +1,7 @@
 //! What became of the nodes that are gone, by the numbers of steps.
 use crate::births::Births;
 use actor_plays::{GoneNode, Play};
-use sm_names::{Cause, Failure, Fault, Misuse, NodeKey};
+use sm_names::{Cause, Failure};
 use std::alloc::{AllocError, Global};
 
 // What became of a node that is gone: 0 where it ended, else the number of the cause, and the number of the
@@ -32,79 +32,6 @@ pub(crate) fn cause_number(cause: Cause) -> u32 {
         Cause::Misused(misuse) => (misuse.number() as u32).wrapping_add(100),
         Cause::Failed(failure) => failure_number(failure),
     }
-}
-
-// The failure of this number.
-fn failure_of(number: u32) -> Failure {
-    match number {
-        20 => Failure::NoStrong,
-        21 => Failure::NoBuffers,
-        22 => Failure::TooManyBuffers,
-        23 => Failure::PoolFull,
-        24 => Failure::TooFew,
-        _ => Failure::TooSmall,
-    }
-}
-
-// The misuse of this number.
-fn misuse_of(number: u32) -> Misuse {
-    match number {
-        101 => Misuse::SecondConstraints,
-        102 => Misuse::LateWeak,
-        103 => Misuse::LateWeakOk,
-        104 => Misuse::WeakNotOk,
-        _ => Misuse::TooManyNodeTrackers,
-    }
-}
-
-// The cause of this number.
-fn cause_of(number: u32) -> Cause {
-    match number {
-        1 => Cause::Lost,
-        2 => Cause::NoStrong,
-        20..=25 => Cause::Failed(failure_of(number)),
-        _ => Cause::Misused(misuse_of(number)),
-    }
-}
-
-// The node that the step of this number made, where these are the numbers of the steps that made these nodes.
-fn key_at(numbers: &[u32], keys: &[NodeKey], number: u32) -> Option<NodeKey> {
-    match numbers.binary_search(&number) {
-        Ok(at) => keys.get(at).copied(),
-        Err(_) => None,
-    }
-}
-
-// The node that is gone, under its key in this play.
-fn gone_node(numbers: &[u32], keys: &[NodeKey], fall: &NamedFall) -> Option<GoneNode> {
-    let key = key_at(numbers, keys, fall.name)?;
-    if fall.cause == 0 {
-        return Some(GoneNode { key, fault: None });
-    }
-    let origin = key_at(numbers, keys, fall.origin)?;
-    Some(GoneNode {
-        key,
-        fault: Some(Fault {
-            cause: cause_of(fall.cause),
-            origin,
-        }),
-    })
-}
-
-// The same of all.
-pub(crate) fn gone_nodes(
-    alloc: Global,
-    numbers: &[u32],
-    keys: &[NodeKey],
-    falls: &[NamedFall],
-) -> Result<Vec<GoneNode>, AllocError> {
-    let mut gone = Vec::new(alloc);
-    for fall in falls {
-        if let Some(node) = gone_node(numbers, keys, fall) {
-            gone.push(node)?;
-        }
-    }
-    Ok(gone)
 }
 
 fn named_fall(births: &Births, fall: &GoneNode) -> NamedFall {

@@ -1,15 +1,11 @@
 //! The values of plays that were met, and the turns that lead from one to another.
-ghost use Rattle.std.specs.Prelude.{ℕ, ◌≡◌, ◌≤◌, ◌+◌, List, Some, is_some, reverse, slice_get, true, IfOk, OnOk, vec_len};
+ghost use Rattle.std.specs.Prelude.{◌≡◌, ◌≤◌, ◌+◌, is_some, reverse, slice_get, true, IfOk, OnOk, vec_len};
 ghost use Rattle.actor_plays.specs.Plays.{IsPlay};
-ghost use Rattle.actor_plays.specs.Moves.{position_of};
-ghost use Rattle.explore_keys.specs.Values.{IsValue};
-ghost use Rattle.play_search.specs.Closing.{texts_of, way_to};
+ghost use Rattle.play_search.specs.Closing.{way_to};
 ghost use Rattle.play_search.specs.Searches.{IsPool, IsWithin};
-ghost use Rattle.play_search.specs.Vanishings.{began_early};
 
 use crate::falls::NamedFall;
 use crate::fault::ExploreFault;
-use crate::keys::key_of;
 use crate::next::{Ended, Group, Met, ended_in, met_in, next_in, nexts_of};
 use crate::numbers::small;
 use crate::progress::{Progress, tell_met};
@@ -48,7 +44,7 @@ pub(crate) struct Row {
 // All values that were met, in that order, each with a row and the nodes that fell.
 #[derive(Drop)]
 pub(crate) struct Graph {
-    pub(crate) values: IndexSet<Vec<u8>, LabelHash>,
+    values: IndexSet<Vec<u8>, LabelHash>,
     falls: Vec<Vec<NamedFall>>,
     pub(crate) rows: Vec<Row>,
     pub(crate) edges: Vec<Edge>,
@@ -283,8 +279,7 @@ impl Graph {
 
     // Adds the value without a turn, at which the play stands.
     fn begin(&mut self, ground: &Ground<'_>, play: &Play) -> Result<(), AllocError>
-        requires play { IsPlay ground.now.plans.now play.now }
-        requires within { IsWithin self.old }
+        requires { IsWithin self.old }
         ensures within { OnOk result (IsWithin self.new) }
         ensures most { OnOk result (self.new.most ≡ self.old.most) }
     {
@@ -477,28 +472,6 @@ impl Graph {
         match self.row(at) {
             Some(row) => row.ending,
             None => None,
-        }
-    }
-
-    // Whether the play has the value at this place.
-    pub(crate) fn is_value(
-        &self,
-        ground: &Ground<'_>,
-        play: &Play,
-        at: usize,
-    ) -> Result<bool, ExploreFault>
-        requires { IsPlay ground.now.plans.now play.now }
-        ensures { IfOk result (λ yes. yes ≡ true → (text : List ℕ)
-            × (slice_get (texts_of self.now.values.keys) at ≡ Some text)
-            × IsValue (began_early ground.now.vanishing.at_end ground.now.plans.now) text
-            play.now.entries.items (position_of play.now)) }
-    {
-        match key_of(ground, play)? {
-            Some(key) => match self.values.get_index(at) {
-                Some(value) => Ok(value.as_slice() == key.as_slice()),
-                None => Ok(false),
-            },
-            None => Ok(false),
         }
     }
 

@@ -13,7 +13,6 @@ mod falls;
 mod fault;
 mod graph;
 mod idle;
-mod keys;
 mod likeness;
 mod next;
 mod numbers;

@@ -7,9 +7,8 @@ use crate::births::Births;
 use crate::falls::{NamedFall, falls_of};
 use crate::fault::ExploreFault;
 use crate::idle::is_idle;
-use crate::keys::key_where;
 use crate::replay::Ground;
-use crate::value::{ending_of, level_of};
+use crate::value::{ending_of, level_of, value_of};
 use crate::vanishing::{may_leave, must_leave, vanished_of};
 use actor_plays::{Actor, Play, Turned};
 use explore_model::Turn;
@@ -39,9 +38,7 @@ pub(crate) fn met_in(
     ground: &Ground<'_>,
     before: &[NamedFall],
     play: &Play,
-) -> Result<Met, AllocError>
-    requires { IsPlay ground.now.plans.now play.now }
-{
+) -> Result<Met, AllocError> {
     let births = Births::of(ground, play)?;
     met_by(ground, before, &births, play)
 }
@@ -52,12 +49,10 @@ fn met_by(
     before: &[NamedFall],
     births: &Births,
     play: &Play,
-) -> Result<Met, AllocError>
-    requires { IsPlay ground.now.plans.now play.now }
-{
+) -> Result<Met, AllocError> {
     let level = level_of(ground.alloc, play.actors())?;
     let falls = falls_of(ground.alloc, before, births, play)?;
-    let value = key_where(ground, &falls, play)?;
+    let value = value_of(ground, births, &falls, play)?;
     Ok(Met {
         value,
         falls,

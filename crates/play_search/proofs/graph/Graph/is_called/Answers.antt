@@ -12,19 +12,14 @@ pass_all-requires c =
     (subst (IsTurn c.args.ground.now.plans.now c.args.play.now c.take_turn.new.self c.args.actor)
     (made_is c.in_ok-turned.turned (sym c.is_made.ensures ∙ c.if-not-is_made.false)) c.in_ok-turned.ensures.turn).0
 
--- what is passed changes no pool,
-pub leads_back-requires-clause-pool : goal.leads_back-requires-clause-pool
-leads_back-requires-clause-pool c =
-    ap (λ (p : Play). p.core.pool) c.pass_all.ensures.rest ∙ (c.in_ok-turned.ensures.pool ∙ c.requires.here.pages)
-
--- and no limits
+-- what is passed changes no limits
 pub leads_back-requires-clause-limits : goal.leads_back-requires-clause-limits
 leads_back-requires-clause-limits c =
     ap (λ (p : Play). p.core.limits) c.pass_all.ensures.rest ∙ (c.in_ok-turned.ensures.limits ∙ c.requires.here.limits)
 
 -- there was none, or it has to wait
 pub returns-then-not-is_made : goal.returns-then-not-is_made
-returns-then-not-is_made c = λ yes valued.
+returns-then-not-is_made c = λ yes.
     let rows = c.args.self.now.rows.items in
     none_turned c.args.ground.now.plans.now c.args.ground.now.vanishing c.args.ground.now.setting (ways_of rows)
     (way_to rows c.args.at) c.args.actor c.args.play.now c.requires.here c.take_turn.new.self c.in_ok-turned.turned
@@ -32,7 +27,7 @@ returns-then-not-is_made c = λ yes valued.
 
 -- it was made, and led back
 pub returns : goal.returns
-returns c = λ yes valued.
+returns c = λ yes.
     let plans = c.args.ground.now.plans.now in
     let rows = c.args.self.now.rows.items in
     let old = c.args.play.now in
@@ -41,4 +36,4 @@ returns c = λ yes valued.
     c.requires.here new c.pass_all.new.self
     (subst (TakesTurn plans old new c.args.actor) (made_is c.in_ok-turned.turned (sym c.is_made.ensures ∙ c.if-not-is_made.false))
     (c.in_ok-turned.ensures.takes refl))
-    c.pass_all.ensures.passes (c.in_ok-back.ensures yes valued)
+    c.pass_all.ensures.passes (c.in_ok-back.ensures yes)

@@ -6,7 +6,7 @@ use Rattle.play_search.proofs.graph.Graph.is_leave_tried.Goals as goal
 
 -- the actor may not leave
 pub returns-then-not-branch : goal.returns-then-not-branch
-returns-then-not-branch c = λ yes valued.
+returns-then-not-branch c = λ yes.
     let plans = c.args.ground.now.plans.now in
     let vanishing = c.args.ground.now.vanishing in
     let setting = c.args.ground.now.setting in

@@ -13,19 +13,14 @@ pass_all-requires c =
     (subst (IsLeave c.args.ground.now.plans.now c.args.play.now c.take_leave.new.self c.args.actor) c.if-not-left.false
     c.in_ok-left.ensures.leave).0
 
--- what is passed changes no pool,
-pub leads_back-requires-clause-pool : goal.leads_back-requires-clause-pool
-leads_back-requires-clause-pool c =
-    ap (λ (p : Play). p.core.pool) c.pass_all.ensures.rest ∙ (c.in_ok-left.ensures.pool ∙ c.requires.here.pages)
-
--- and no limits
+-- what is passed changes no limits
 pub leads_back-requires-clause-limits : goal.leads_back-requires-clause-limits
 leads_back-requires-clause-limits c =
     ap (λ (p : Play). p.core.limits) c.pass_all.ensures.rest ∙ (c.in_ok-left.ensures.limits ∙ c.requires.here.limits)
 
 -- it may not leave
 pub returns-then-not-may : goal.returns-then-not-may
-returns-then-not-may c = λ yes valued.
+returns-then-not-may c = λ yes.
     let plans = c.args.ground.now.plans.now in
     let vanishing = c.args.ground.now.vanishing in
     let setting = c.args.ground.now.setting in
@@ -35,7 +30,7 @@ returns-then-not-may c = λ yes valued.
 
 -- it has no call to leave by
 pub returns-then-not-left : goal.returns-then-not-left
-returns-then-not-left c = λ yes valued.
+returns-then-not-left c = λ yes.
     let plans = c.args.ground.now.plans.now in
     let rows = c.args.self.now.rows.items in
     let old = c.args.play.now in
@@ -45,7 +40,7 @@ returns-then-not-left c = λ yes valued.
 
 -- it left, which led back
 pub returns : goal.returns
-returns c = λ yes valued.
+returns c = λ yes.
     let plans = c.args.ground.now.plans.now in
     let vanishing = c.args.ground.now.vanishing in
     let setting = c.args.ground.now.setting in
@@ -55,4 +50,4 @@ returns c = λ yes valued.
     one_left plans vanishing setting (ways_of rows) (way_to rows c.args.at) c.args.actor old c.requires.here new c.pass_all.new.self
     (sym (may_same plans vanishing setting old c.args.actor) ∙ (sym c.in_ok-may.ensures ∙ c.if-not-may.false))
     (subst (TakesLeave plans old new c.args.actor) c.if-not-left.false (c.in_ok-left.ensures.takes refl))
-    c.pass_all.ensures.passes (c.in_ok-back.ensures yes valued)
+    c.pass_all.ensures.passes (c.in_ok-back.ensures yes)

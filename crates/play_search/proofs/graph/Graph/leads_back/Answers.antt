@@ -1,11 +1,21 @@
-use Rattle.play_search.specs.Closing.{texts_of}
-use Rattle.play_search.proofs.ClosingLaws.{back_by_value}
+use Rattle.std.proofs.Common.{◌∙◌, ap, subst, sym}
+use Rattle.actor_plays.specs.declared.play.Play.{Play}
+use Rattle.play_search.specs.Closing.{way_to}
+use Rattle.play_search.specs.Searches.{IsReplay}
+use Rattle.play_search.proofs.ClosingLaws.{is_back}
 use Rattle.play_search.proofs.graph.Graph.leads_back.Goals as goal
 
--- it has that value, as the play of the way to it does
+-- it is like the play of the way to that value
 pub returns : goal.returns
-returns c = λ yes valued.
-    let value = c.in_ok-value.ensures yes in
-    back_by_value c.args.ground.now.plans.now c.args.ground.now.vanishing c.args.ground.now.setting c.args.self.now.rows.items
-    (texts_of c.args.self.now.values.keys) c.in-Some.to c.args.play.now value.0 (c.is_met.ensures c.if-not-is_met.false) value.1
-    c.requires.plays value.2 c.requires.pool c.requires.limits valued
+returns c = λ yes.
+    let plans = c.args.ground.now.plans.now in
+    let vanishing = c.args.ground.now.vanishing in
+    let setting = c.args.ground.now.setting in
+    let rows = c.args.self.now.rows.items in
+    is_back plans vanishing setting rows c.in-Some.to c.args.play.now c.deref.result.now (c.is_met.ensures c.if-not-is_met.false)
+    (subst (IsReplay plans vanishing setting (way_to rows c.in-Some.to)) (sym c.deref.ensures) c.in_ok-other.ensures)
+    (c.in_ok-alike.ensures yes)
+
+pub are_alike-requires-clause-limits : goal.are_alike-requires-clause-limits
+are_alike-requires-clause-limits c =
+    ap (λ (p : Play). p.core.limits) c.deref.ensures ∙ (c.in_ok-other.ensures.limits ∙ sym c.requires.limits)
