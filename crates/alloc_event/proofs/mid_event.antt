@@ -1,3 +1,2 @@
 -- Forced steps that are made in their places, one after another.
 pub mod Births
-pub mod MoreSlots

@@ -1,19 +1,10 @@
 -- Handles that are opened in the cells of one page.
-use Rattle.std.proofs.Common.{◌≡◌, ◌+◌, ◌<◌, ◌==◌, ◌&&◌, ◌||◌, refl, sym, ap, ◌∙◌, ℕ, Bool, true, false, cond, arith, if◌then◌else◌}
-use Rattle.std.proofs.Common.{IsSome, List, Option, None, Some, is_some, subst, unwrap_or}
-use Rattle.std.proofs.lemmas.Bool.{false≢true}
-use Rattle.std.specs.Map.{lookup}
-use Rattle.sm_names.specs.declared.keys.BufferName.{BufferName}
-use Rattle.sm_names.specs.declared.keys.Strength.{Strength}
-use Rattle.buffer_holds.specs.declared.names.Owner.{Owner}
-use Rattle.buffer_holds.specs.declared.names.Part.{Part}
-use Rattle.buffer_holds.specs.Changes.{Sets}
-use Rattle.buffer_holds.specs.Counts.{Counts, has_handle_room, moving_count, of, total}
-use Rattle.buffer_holds.specs.Gains.{Gains, HasRoomIn}
-use Rattle.buffer_holds.specs.Kinds.{hold_of, kind_of, same_handle_kind, same_hold}
-use Rattle.buffer_holds.specs.Pages.{cell_at, count_in, is_in, kind_at, owner_of, page_of, part_of, raised, rows_in, same_owner, same_part, slot_of}
-use Rattle.buffer_holds.specs.Rows.{row_at}
-use Rattle.buffer_holds.specs.Sums.{one_page, page_in, sum_in, Agrees, AreUpTo, IsAlike, Pages, PageBecomes, Sums, SumBecomes}
+use Rattle.buffer_holds.proofs.Common.{Agrees, AreUpTo, Bool, BufferName, Counts, Gains, HasRoomIn, IsAlike, IsSome, List, None, Option}
+use Rattle.buffer_holds.proofs.Common.{Owner, PageBecomes, Pages, Part, Sets, Some, Strength, SumBecomes, Sums, ap, arith, cell_at, cond}
+use Rattle.buffer_holds.proofs.Common.{count_in, false, false≢true, has_handle_room, hold_of, if◌then◌else◌, is_in, is_some, kind_at}
+use Rattle.buffer_holds.proofs.Common.{kind_of, lookup, moving_count, of, one_page, owner_of, page_in, page_of, part_of, raised, refl}
+use Rattle.buffer_holds.proofs.Common.{row_at, rows_in, same_handle_kind, same_hold, same_owner, same_part, slot_of, subst, sum_in, sym}
+use Rattle.buffer_holds.proofs.Common.{total, true, unwrap_or, ℕ, ◌&&◌, ◌+◌, ◌<◌, ◌==◌, ◌||◌, ◌∙◌, ◌≡◌}
 use Rattle.buffer_holds.proofs.KindLemmas.{same_hold-one, same_kind-one}
 use Rattle.buffer_holds.proofs.PageNames.{part_law, same_owner-one, same_part-one, same_part-refl, slot_law}
 use Rattle.buffer_holds.proofs.Runs.{is_one, one_if, raised_count}

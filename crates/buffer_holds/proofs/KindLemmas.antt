@@ -1,12 +1,8 @@
 -- The tests of keys that are derived are those of the specs, and keys that pass them are one.
-use Rattle.std.proofs.Common.{◌≡◌, true, ◌==◌, arith}
-use Rattle.std.proofs.lemmas.Grind.{common_steps}
-use Rattle.std.proofs.lemmas.Bool.{and_parts, eqb-true}
-use Rattle.sm_names.specs.Sameness.{same_buffer, same_strength}
-use Rattle.buffer_holds.specs.declared.kinds.HandleKind.{HandleKind}
-use Rattle.buffer_holds.specs.declared.kinds.Hold.{Hold}
-use Rattle.buffer_holds.specs.Kinds.{same_handle_kind, same_hold}
-use Rattle.sm_names.proofs.SamenessLaws.{same_buffer-true, same_strength-true, same_strength-refl}
+use Rattle.buffer_holds.proofs.Common.{HandleKind, Hold, and_parts, arith, common_steps, eqb-true, same_handle_kind, same_hold}
+use Rattle.buffer_holds.proofs.Common.{same_strength, same_strength-refl, same_strength-true, true, ◌==◌, ◌≡◌}
+use Rattle.sm_names.specs.Sameness.{same_buffer}
+use Rattle.sm_names.proofs.SamenessLaws.{same_buffer-true}
 
 -- kinds that are the same are one
 pub same_kind-one : (a b : HandleKind) → same_handle_kind a b ≡ true → a ≡ b

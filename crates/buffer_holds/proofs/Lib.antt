@@ -1,3 +1,4 @@
+mod Common
 pub mod Gaining
 pub mod KindLemmas
 pub mod Masks

@@ -1,16 +1,14 @@
 -- The cells of a page, by its mask and its counts.
-use Rattle.std.proofs.Common.{◌≡◌, ◌≢◌, ◌+◌, ◌-◌, ◌*◌, ◌%◌, ◌/◌, ◌^◌, ◌<◌, ◌≤◌, ◌∙◌, refl, sym, ap, subst, ℕ, zero, suc, Bool, true, false}
-use Rattle.std.proofs.Common.{if◌then◌else◌, ◌==◌, List, [], ◌∷◌, Option, Some, None, arith, get_or, is_some, length, replicate, set, unwrap_or}
-use Rattle.std.proofs.Common.{bit_and, bit_or, ⊎_elim, max, nat_lt, not, ◌&&◌}
-use Rattle.std.specs.Int.{bit_at, bit_not, w128}
-use Rattle.std.proofs.lemmas.Bool.{cases_eq, cases_lt, eqb-false, eqb-true}
-use Rattle.std.proofs.lemmas.List.{get_or-set_same, get_or-set_other, get_or_past}
-use Rattle.std.proofs.lemmas.Nat.Bits.{bit_at_lowest, bit_at-lt, bit_at-suc, bit_at-zero}
-use Rattle.std.proofs.lemmas.Nat.Bits.{bit_at_set_same, bit_at_set_other, bit_at_clear_same, bit_at_clear_other}
-use Rattle.std.proofs.lemmas.Bool.{le-ltb, lt-ltb}
+use Rattle.buffer_holds.proofs.Common.{Bool, IsBlank, IsIn, IsMasked, List, None, Option, RaisesSet, SetsCell, Some, [], ap, arith}
+use Rattle.buffer_holds.proofs.Common.{bit_at, bit_at-lt, bit_at-zero, bit_at_lowest, cases_eq, cases_lt, cell_at, count_in, eqb-false}
+use Rattle.buffer_holds.proofs.Common.{eqb-true, false, get_or, get_or-set_other, get_or-set_same, if◌then◌else◌, is_in, le-ltb, length}
+use Rattle.buffer_holds.proofs.Common.{lt-ltb, masked, nat_lt, not, raised, refl, replicate, set, subst, suc, sym, true, unwrap_or, zero}
+use Rattle.buffer_holds.proofs.Common.{ℕ, ⊎_elim, ◌%◌, ◌&&◌, ◌*◌, ◌+◌, ◌-◌, ◌/◌, ◌<◌, ◌==◌, ◌^◌, ◌∙◌, ◌∷◌, ◌≡◌, ◌≢◌, ◌≤◌}
+use Rattle.std.proofs.Common.{bit_and, bit_or, max}
+use Rattle.std.specs.Int.{bit_not, w128}
+use Rattle.std.proofs.lemmas.List.{get_or_past}
+use Rattle.std.proofs.lemmas.Nat.Bits.{bit_at-suc, bit_at_clear_same, bit_at_clear_other, bit_at_cat_high, bit_at_cat_low, bit_at_or}
 use Rattle.std.proofs.lemmas.Nat.{pow_pos}
-use Rattle.std.proofs.lemmas.Nat.Bits.{bit_at_cat_high, bit_at_cat_low, bit_at_or}
-use Rattle.buffer_holds.specs.Pages.{cell_at, count_in, is_in, masked, raised, IsBlank, IsIn, IsMasked, RaisesSet, SetsCell}
 
 -- a cell with this bit and count
 abbrev pub cell_of : ℕ → ℕ → Option ℕ

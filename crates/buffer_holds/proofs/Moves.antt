@@ -1,20 +1,11 @@
 -- What one call does to a page and the sum of its part.
-use Rattle.std.proofs.Common.{◌≡◌, ◌+◌, ◌-◌, ◌≤◌, ◌<◌, ◌==◌, ◌&&◌, refl, sym, ap, subst, ◌∙◌, ℕ, Bool, true, false, cond}
-use Rattle.std.proofs.Common.{List, Option, Some, None, arith, if◌then◌else◌, IsSome, is_some, unwrap_or}
-use Rattle.std.proofs.lemmas.Bool.{eqb-true}
-use Rattle.std.specs.Map.{lookup}
-use Rattle.sm_names.specs.declared.keys.BufferName.{BufferName}
-use Rattle.sm_names.specs.declared.keys.Strength.{Strength}
-use Rattle.buffer_holds.specs.declared.names.Owner.{Owner}
-use Rattle.buffer_holds.specs.declared.names.Part.{Part}
-use Rattle.buffer_holds.specs.declared.sums.Sum.{Sum}
-use Rattle.buffer_holds.specs.Changes.{Sets, Tidies}
-use Rattle.buffer_holds.specs.declared.kinds.HandleKind.{HandleKind}
-use Rattle.buffer_holds.specs.Counts.{Counts, of, moving_count, sent, total}
-use Rattle.buffer_holds.specs.Kinds.{hold_of, kind_of, same_handle_kind}
-use Rattle.buffer_holds.specs.Pages.{cell_at, count_in, owner_of, part_of, page_of, same_owner, same_part, slot_of, tidied, IsBlank}
-use Rattle.buffer_holds.specs.Rows.{weight_at}
-use Rattle.buffer_holds.specs.Sums.{one_page, page_in, sum_in, sum_of, Agrees, IsAlike, Pages, PageBecomes, Sums, SumBecomes}
+use Rattle.buffer_holds.proofs.Common.{Agrees, Bool, BufferName, Counts, HandleKind, IsAlike, IsBlank, IsSome, List, None, Option, Owner}
+use Rattle.buffer_holds.proofs.Common.{PageBecomes, Pages, Part, Sets, Some, Strength, Sum, SumBecomes, Sums, Tidies, ap, arith, cell_at}
+use Rattle.buffer_holds.proofs.Common.{cond, count_in, eqb-true, false, hold_of, if◌then◌else◌, is_some, kind_of, lookup, moving_count}
+use Rattle.buffer_holds.proofs.Common.{of, one_page, owner_of, page_in, page_of, part_of, refl, same_handle_kind, same_owner, same_part}
+use Rattle.buffer_holds.proofs.Common.{slot_of, subst, sum_in, sum_of, sym, tidied, total, true, unwrap_or, weight_at, ℕ, ◌&&◌, ◌+◌, ◌-◌}
+use Rattle.buffer_holds.proofs.Common.{◌<◌, ◌==◌, ◌∙◌, ◌≡◌, ◌≤◌}
+use Rattle.buffer_holds.specs.Counts.{sent}
 use Rattle.buffer_holds.proofs.KindLemmas.{same_kind-one}
 use Rattle.buffer_holds.proofs.PageNames.{same_owner-one, same_part-one, slot_within}
 use Rattle.buffer_holds.proofs.RowLemmas.{weight_at-le-sum_by}

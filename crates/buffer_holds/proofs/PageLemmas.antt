@@ -1,15 +1,10 @@
 -- The entries in pages.
-use Rattle.std.proofs.Common.{ℕ, zero, suc, ◌≡◌, ◌+◌, ◌<◌, ◌≤◌, ◌==◌, ◌&&◌}
-use Rattle.std.proofs.Common.{refl, sym, ap, subst, ◌∙◌, Bool, true, false, cond, if◌then◌else◌}
-use Rattle.std.proofs.Common.{List, [], ◌∷◌, Option, Some, None, arith, length, sum_by}
-use Rattle.std.proofs.lemmas.Bool.{eqb-false, eqb-true, false≢true}
-use Rattle.std.proofs.lemmas.Grind.{common_steps}
-use Rattle.std.proofs.lemmas.List.Sums.{sum_by-cons}
+use Rattle.buffer_holds.proofs.Common.{Bool, IsDistinct, List, None, Option, Some, [], ap, arith, cell_at, common_steps, cond, count_in}
+use Rattle.buffer_holds.proofs.Common.{eqb-false, eqb-true, false, false≢true, flat, if◌then◌else◌, keys_of, lookup, page_of, refl, subst}
+use Rattle.buffer_holds.proofs.Common.{suc, sum_by, sum_by-cons, sym, true, weight_at, zero, ℕ, ◌&&◌, ◌+◌, ◌<◌, ◌==◌, ◌∙◌, ◌∷◌, ◌≡◌, ◌≤◌}
 use Rattle.std.proofs.lemmas.Map.Keys.{IsDistinct-cons}
-use Rattle.std.specs.List.{AllByRecursion, IsDistinct}
-use Rattle.std.specs.Map.{lookup, keys_of}
-use Rattle.buffer_holds.specs.Pages.{cell, cell_at, cells, count_in, flat, page_of}
-use Rattle.buffer_holds.specs.Rows.{weight_at}
+use Rattle.std.specs.List.{AllByRecursion}
+use Rattle.buffer_holds.specs.Pages.{cell, cells}
 
 -- numbers that differ are not the same
 eqb-other : (m n : ℕ) → m < n → (m == n) ≡ false

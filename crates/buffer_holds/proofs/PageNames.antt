@@ -1,19 +1,12 @@
 -- Pages by the holds and kinds that they count.
-use Rattle.std.proofs.Common.{ℕ, ◌≡◌, ◌+◌, ◌*◌, ◌/◌, ◌%◌, ◌<◌, ◌==◌, ◌&&◌, refl, ap, ◌∙◌, Bool, true, false, arith, if◌then◌else◌, nat_lt}
-use Rattle.std.proofs.lemmas.Bool.{and_parts, eqb-false, eqb-true, le-ltb, lt-ltb, ltb-false, ltb-true}
-use Rattle.std.proofs.lemmas.Grind.{common_steps}
-use Rattle.sm_names.specs.Sameness.{same_strength}
-use Rattle.sm_names.specs.declared.keys.Strength.{Strength}
-use Rattle.sm_names.specs.declared.keys.Strength.TheVariants.{Strong, Weak}
-use Rattle.sm_names.proofs.SamenessLaws.{same_strength-refl}
+use Rattle.buffer_holds.proofs.Common.{Bool, HandleKind, Hold, Owner, Part, Strength, Strong, Weak, and_parts, ap, arith, common_steps}
+use Rattle.buffer_holds.proofs.Common.{eqb-false, eqb-true, false, hold_at, if◌then◌else◌, kind_at, le-ltb, lt-ltb, ltb-true, nat_lt}
+use Rattle.buffer_holds.proofs.Common.{owner_of, part_of, refl, same_handle_kind, same_hold, same_owner, same_part, same_strength}
+use Rattle.buffer_holds.proofs.Common.{same_strength-refl, slot_for, slot_of, true, ℕ, ◌%◌, ◌&&◌, ◌*◌, ◌+◌, ◌/◌, ◌<◌, ◌==◌, ◌∙◌, ◌≡◌}
+use Rattle.std.proofs.lemmas.Bool.{ltb-false}
+use Rattle.buffer_holds.specs.Pages.{strength_at}
 use Rattle.buffer_holds.specs.contracts.names.PartPartialEq.TheImpl as part
 use Rattle.buffer_holds.specs.contracts.names.OwnerPartialEq.TheImpl as owner
-use Rattle.buffer_holds.specs.declared.kinds.HandleKind.{HandleKind}
-use Rattle.buffer_holds.specs.declared.kinds.Hold.{Hold}
-use Rattle.buffer_holds.specs.declared.names.Owner.{Owner}
-use Rattle.buffer_holds.specs.declared.names.Part.{Part}
-use Rattle.buffer_holds.specs.Kinds.{same_handle_kind, same_hold}
-use Rattle.buffer_holds.specs.Pages.{hold_at, kind_at, owner_of, part_of, same_owner, same_part, slot_for, slot_of, strength_at}
 
 -- the derived test of parts
 pub derived_part : (part.eq-value).it ≡ same_part

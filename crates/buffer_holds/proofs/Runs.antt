@@ -1,7 +1,7 @@
 -- The runs of a set: bits that stand side by side.
 use lib.Count.{count_trailing_zeros}
-use Rattle.std.proofs.Common.{◌≡◌, ◌≢◌, ◌+◌, ◌-◌, ◌/◌, ◌%◌, ◌^◌, ◌<◌, ◌≤◌, ◌==◌, ◌&&◌, refl, sym, ap, ◌∙◌, ℕ, zero, suc, Bool, true, false, not}
-use Rattle.std.proofs.Common.{List, arith, get_or, if◌then◌else◌, length, nat_lt, set, Option, Some, unwrap_or, ◌⊎◌, ⊎_elim}
+use Rattle.std.proofs.Common.{◌≡◌, ◌≢◌, ◌+◌, ◌-◌, ◌/◌, ◌%◌, ◌^◌, ◌<◌, ◌≤◌, ◌==◌, ◌&&◌, refl, sym, ap, ◌∙◌, ℕ, zero, suc, Bool, true}
+use Rattle.std.proofs.Common.{false, not, List, arith, get_or, if◌then◌else◌, length, nat_lt, set, Option, Some, unwrap_or, ◌⊎◌, ⊎_elim}
 use Rattle.std.proofs.lemmas.List.{get_or-set_same, get_or-set_other}
 use Rattle.std.proofs.lemmas.Bool.{cases_eq, cases_lt, eqb-false, eqb-true, false≢true, le-ltb, lt-ltb}
 use Rattle.std.proofs.lemmas.Nat.{shr-shr}

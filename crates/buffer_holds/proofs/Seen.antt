@@ -1,31 +1,18 @@
 -- The counts that contracts see, by the pages and sums.
-use Rattle.std.proofs.Common.{◌≡◌, ◌+◌, ◌<◌, ◌==◌, ◌&&◌, ◌||◌, refl, sym, ap, subst, ◌∙◌, ℕ, zero, suc, Bool, true, false, cond, nat_lt}
-use Rattle.std.proofs.Common.{sum_by, List, [], ◌∷◌, Option, Some, None, arith, if◌then◌else◌, is_some, unwrap_or}
-use Rattle.std.proofs.lemmas.Bool.{eqb-false, eqb-true, lt-ltb}
-use Rattle.std.proofs.lemmas.Grind.{common_steps}
-use Rattle.std.proofs.lemmas.List.Sums.{sum_by-cons}
+use Rattle.buffer_holds.proofs.Common.{Agrees, Bool, BufferName, Counts, HandleKind, Hold, IsDistinct, List, None, Option, Owner, Pages}
+use Rattle.buffer_holds.proofs.Common.{Part, Sets, Some, Strength, Sum, SumBecomes, Sums, Tidies, [], ap, arith, cell_at, common_steps}
+use Rattle.buffer_holds.proofs.Common.{cond, count_in, eqb-false, eqb-true, false, flat, has_handle_room, held, hold_at, hold_of}
+use Rattle.buffer_holds.proofs.Common.{if◌then◌else◌, is_some, keys_of, kind_at, kind_of, lookup, lt-ltb, moving_count, nat_lt, of}
+use Rattle.buffer_holds.proofs.Common.{option_map, owner_of, page_in, page_of, page_size, part_of, refl, row_at, rows_in}
+use Rattle.buffer_holds.proofs.Common.{same_handle_kind, same_hold, same_owner, same_part, share, slot_of, subst, suc, sum_by}
+use Rattle.buffer_holds.proofs.Common.{sum_by-cons, sum_in, sum_of, sym, tidied, total, true, unwrap_or, weight_at, zero, ℕ, ◌&&◌, ◌+◌}
+use Rattle.buffer_holds.proofs.Common.{◌<◌, ◌==◌, ◌||◌, ◌∙◌, ◌∷◌, ◌≡◌}
 use Rattle.std.proofs.lemmas.Map.Made.{lookup-map_values}
-use Rattle.std.specs.List.{IsDistinct}
-use Rattle.std.specs.Map.{lookup, keys_of}
-use Rattle.std.specs.Option.{option_map}
-use Rattle.sm_names.specs.declared.keys.BufferName.{BufferName}
-use Rattle.sm_names.specs.declared.keys.Strength.{Strength}
-use Rattle.buffer_holds.specs.declared.kinds.HandleKind.{HandleKind}
-use Rattle.buffer_holds.specs.declared.kinds.Hold.{Hold}
-use Rattle.buffer_holds.specs.declared.names.Owner.{Owner}
-use Rattle.buffer_holds.specs.declared.names.Part.{Part}
-use Rattle.buffer_holds.specs.declared.sums.Sum.{Sum}
-use Rattle.buffer_holds.specs.Changes.{Sets, Tidies}
-use Rattle.buffer_holds.specs.Counts.{Counts, of, moving_count, total, has_handle_room, share}
-use Rattle.buffer_holds.specs.Kinds.{hold_of, kind_of, same_handle_kind, same_hold}
-use Rattle.buffer_holds.specs.Pages.{cell_at, count_in, flat, hold_at, kind_at, owner_of, page_of, page_size, part_of, tidied}
-use Rattle.buffer_holds.specs.Pages.{rows_in, same_owner, same_part, slot_of}
-use Rattle.buffer_holds.specs.Rows.{row_at, weight_at}
-use Rattle.buffer_holds.specs.Sums.{held, page_in, parcel_pages, parcels_in, sum_in, sum_of, Agrees, Pages, Sums, SumBecomes}
+use Rattle.buffer_holds.specs.Sums.{parcel_pages, parcels_in}
 use Rattle.buffer_holds.proofs.KindLemmas.{same_hold-one}
 use Rattle.buffer_holds.proofs.PageLemmas.{found, moved, moved_set, moved_alike, sum_cells, weighed, weighed_at, weighed_before}
-use Rattle.buffer_holds.proofs.PageNames.{hold_law, hold_whole, kind_law, kind_whole, same_owner-one, same_owner-refl}
-use Rattle.buffer_holds.proofs.PageNames.{same_part-one, same_part-refl, slot_within}
+use Rattle.buffer_holds.proofs.PageNames.{hold_law, hold_whole, kind_law, kind_whole, same_owner-one, same_owner-refl, same_part-one}
+use Rattle.buffer_holds.proofs.PageNames.{same_part-refl, slot_within}
 
 -- the counts as contracts see them
 abbrev pub seen : (limit places : ℕ) → Pages → Sums → Counts

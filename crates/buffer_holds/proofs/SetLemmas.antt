@@ -1,21 +1,11 @@
 -- The handles on a set of buffers.
-use Rattle.std.proofs.Common.{ℕ, ◌≡◌, ◌+◌, ◌-◌, ◌/◌, ◌%◌, ◌^◌, ◌<◌, ◌≤◌, ◌==◌, ◌&&◌, ◌||◌, nat_lt}
-use Rattle.std.proofs.Common.{refl, subst, sym, ap, ◌∙◌, Bool, true, false, not, if◌then◌else◌, arith, ⊎_elim}
-use Rattle.std.proofs.lemmas.Bool.{and_parts, cases_lt, eqb-true, false≢true, lt-ltb, le-ltb}
-use Rattle.std.proofs.lemmas.Grind.{common_steps}
-use Rattle.std.proofs.lemmas.Nat.Bits.{bit_at_above, bit_at-trailing_zeros, bit_at-zero}
-use Rattle.std.specs.Int.{bit_at, trailing_zeros, w64}
-use Rattle.sm_names.specs.declared.keys.BufferName.{BufferName}
-use Rattle.sm_names.specs.declared.keys.Strength.{Strength}
-use Rattle.sm_names.specs.declared.keys.Strength.TheVariants.{Strong, Weak}
-use Rattle.sm_names.specs.Sameness.{same_strength}
-use Rattle.sm_names.proofs.SamenessLaws.{same_strength-true}
-use Rattle.buffer_holds.specs.declared.names.Owner.{Owner}
-use Rattle.buffer_holds.specs.Changes.{AddsSet, is_in_set_below}
-use Rattle.buffer_holds.specs.Counts.{Counts, has_handle_room, of, total}
-use Rattle.buffer_holds.specs.Gains.{Gains, HasRoomIn}
-use Rattle.buffer_holds.specs.Kinds.{hold_of, kind_of, same_handle_kind}
-use Rattle.buffer_holds.specs.Pages.{is_in, owner_of, part_of, same_owner, same_part, slot_for, slot_of}
+use Rattle.buffer_holds.proofs.Common.{AddsSet, Bool, BufferName, Counts, Gains, HasRoomIn, Owner, Strength, Strong, Weak, and_parts, ap}
+use Rattle.buffer_holds.proofs.Common.{arith, bit_at, bit_at-trailing_zeros, bit_at-zero, bit_at_above, cases_lt, common_steps, eqb-true}
+use Rattle.buffer_holds.proofs.Common.{false, false≢true, has_handle_room, hold_of, if◌then◌else◌, is_in, kind_of, le-ltb, lt-ltb, nat_lt}
+use Rattle.buffer_holds.proofs.Common.{not, of, owner_of, part_of, refl, same_handle_kind, same_owner, same_part, same_strength}
+use Rattle.buffer_holds.proofs.Common.{same_strength-true, slot_for, slot_of, subst, sym, total, trailing_zeros, true, w64, ℕ, ⊎_elim}
+use Rattle.buffer_holds.proofs.Common.{◌%◌, ◌&&◌, ◌+◌, ◌-◌, ◌/◌, ◌<◌, ◌==◌, ◌^◌, ◌||◌, ◌∙◌, ◌≡◌, ◌≤◌}
+use Rattle.buffer_holds.specs.Changes.{is_in_set_below}
 
 -- 1 where the test passes
 abbrev one_if : Bool → ℕ

@@ -1,16 +1,10 @@
 -- Pages and sums that agree, when one page and the sum of its part change.
-use Rattle.std.proofs.Common.{◌≡◌, ◌+◌, ◌≤◌, ◌<◌, refl, sym, ap, ◌∙◌, ℕ, Bool, true, false, cond}
-use Rattle.std.proofs.Common.{sum_by, length, List, [], ◌∷◌, Option, Some, None, arith, IsSome, is_some, unwrap_or}
-use Rattle.std.proofs.lemmas.List.Sums.{sum_by-cons}
-use Rattle.std.proofs.lemmas.Bool.{cases_lt, false≢true}
-use Rattle.std.proofs.Common.{⊎_elim}
-use Rattle.std.specs.Map.{lookup}
-use Rattle.buffer_holds.specs.declared.names.Owner.{Owner}
-use Rattle.buffer_holds.specs.declared.names.Part.{Part}
-use Rattle.buffer_holds.specs.declared.sums.Sum.{Sum}
-use Rattle.buffer_holds.specs.Pages.{cell_at, count_in, page_of, same_owner, same_part}
-use Rattle.buffer_holds.specs.Rows.{weight_at}
-use Rattle.buffer_holds.specs.Sums.{held, of_part, one_page, page_in, sum_in, sum_of, Agrees, AreUpTo, Pages, PageBecomes, Sums, SumBecomes}
+use Rattle.buffer_holds.proofs.Common.{Agrees, AreUpTo, Bool, IsSome, List, None, Option, Owner, PageBecomes, Pages, Part, Some, Sum}
+use Rattle.buffer_holds.proofs.Common.{SumBecomes, Sums, [], ap, arith, cases_lt, cell_at, cond, count_in, false, false≢true, held}
+use Rattle.buffer_holds.proofs.Common.{is_some, length, lookup, one_page, page_in, page_of, refl, same_owner, same_part, sum_by}
+use Rattle.buffer_holds.proofs.Common.{sum_by-cons, sum_in, sum_of, sym, true, unwrap_or, weight_at, ℕ, ⊎_elim, ◌+◌, ◌<◌, ◌∙◌, ◌∷◌, ◌≡◌}
+use Rattle.buffer_holds.proofs.Common.{◌≤◌}
+use Rattle.buffer_holds.specs.Sums.{of_part}
 use Rattle.buffer_holds.proofs.PageNames.{same_part-one, same_part-refl, same_owner-one}
 use Rattle.buffer_holds.proofs.RowLemmas.{weight_at-le-sum_by}
 

@@ -1,10 +1,6 @@
 -- What a row weighs.
-use Rattle.std.proofs.Common.{◌≡◌, refl, ap, ℕ, Bool, true, false, cond, Option, Some, None, unwrap_or}
-use Rattle.buffer_holds.specs.declared.kinds.HandleKind.{HandleKind}
-use Rattle.buffer_holds.specs.declared.kinds.Hold.{Hold}
-use Rattle.buffer_holds.specs.Counts.{share}
-use Rattle.buffer_holds.specs.Kinds.{same_handle_kind}
-use Rattle.buffer_holds.specs.Rows.{weight_at}
+use Rattle.buffer_holds.proofs.Common.{Bool, HandleKind, Hold, None, Option, Some, ap, cond, false, refl, same_handle_kind, share, true}
+use Rattle.buffer_holds.proofs.Common.{unwrap_or, weight_at, ℕ, ◌≡◌}
 
 -- what a row weighs, by whether it is of the kind
 pub weight_at-share : (kind : HandleKind) (hold : Hold) (row : Option ℕ) (b : Bool) → same_handle_kind hold.kind kind ≡ b →

@@ -1,21 +1,15 @@
 -- What is written at the place where an entry stands.
-use Rattle.std.proofs.Common.{◌≡◌, ◌<◌, ◌++◌, ℕ, zero, suc, ◌∙◌, ap, arith, refl, subst, sym, Bool, true, false, List, [], ◌∷◌, Option, Some, None}
-use Rattle.std.proofs.Common.{IfSome, MutBor, get_or, length, length-append, slice_get}
-use Rattle.std.proofs.lemmas.Option.{get_or_from_slice_get, slice_get-get_or, slice_get_within}
-use Rattle.std.specs.HashMap.{HashMap, values, IsUnique, Updates}
-use Rattle.std.specs.List.{IsDistinct, swap_remove}
-use Rattle.std.specs.Map.{lookup, keys_of}
-use Rattle.std.specs.Option.{option_copied_mut}
-use Rattle.indexmap.specs.IndexMap.{insert_entry, set_value_at}
-use Rattle.indexmap.proofs.CallerLemmas.{index_map_len-with_value_at, insert_entry-new}
+use Rattle.buffer_holds.proofs.Common.{HashMap, IfSome, IsDistinct, IsUnique, List, MutBor, None, Option, Owner, PageBecomes, Part, Some}
+use Rattle.buffer_holds.proofs.Common.{Sum, SumBecomes, Updates, [], ap, arith, cell_at, count_in, false, get_or, get_or_from_slice_get}
+use Rattle.buffer_holds.proofs.Common.{insert_entry, insert_entry-new, keys_of, length, lookup, option_copied_mut, page_in, page_of, refl}
+use Rattle.buffer_holds.proofs.Common.{same_owner, same_part, set_value_at, slice_get, slice_get_within, subst, suc, sum_in, sum_of}
+use Rattle.buffer_holds.proofs.Common.{swap_remove, sym, true, values, zero, ℕ, ◌<◌, ◌∙◌, ◌∷◌, ◌≡◌}
+use Rattle.std.proofs.Common.{◌++◌, length-append}
+use Rattle.std.proofs.lemmas.Option.{slice_get-get_or}
+use Rattle.indexmap.proofs.CallerLemmas.{index_map_len-with_value_at}
 use Rattle.buffer_holds.specs.contracts.names.OwnerPartialEq.TheImpl.{eq-value as owner_eq}
 use Rattle.buffer_holds.specs.contracts.names.PartPartialEq.TheImpl.{eq-value as part_eq}
-use Rattle.buffer_holds.specs.declared.names.Owner.{Owner}
-use Rattle.buffer_holds.specs.declared.names.Part.{Part}
-use Rattle.buffer_holds.specs.declared.sums.Sum.{Sum}
-use Rattle.buffer_holds.specs.Pages.{cell_at, count_in, page_of, same_owner, same_part}
-use Rattle.buffer_holds.specs.Rows.{Resets, StandsAt}
-use Rattle.buffer_holds.specs.Sums.{page_in, sum_in, sum_of, PageBecomes, SumBecomes}
+use Rattle.buffer_holds.specs.Rows.{StandsAt}
 use Rattle.buffer_holds.proofs.PageNames.{derived_owner, derived_part, same_owner-one, same_owner-refl, same_part-one, same_part-refl}
 use Rattle.buffer_holds.proofs.RowLemmas.{lookup_placed, resets_added, resets_placed, resets_taken, value_lent_at}
 

@@ -1,17 +1,36 @@
--- Buffers that are taken from holes one after another.
-use Rattle.std.proofs.Common.{ℕ, zero, suc, ◌≡◌, ◌+◌, ◌-◌, ◌*◌, ◌/◌, ◌<◌, ◌≤◌, refl, ap, sym, ◌∙◌, true, false, min}
-use Rattle.std.proofs.Common.{List, [], ◌∷◌, ◌++◌, length, get_or, set, take, drop, subst, inl, inr, arith, ◌==◌, nat_lt, if◌then◌else◌, append_assoc, add-one}
+-- Buffers side by side, one more and the others. Buffers that are taken from holes one after another.
+use Rattle.std.proofs.Common.{List, [], add-one, ap, append_assoc, arith, drop, false, get_or, if◌then◌else◌, inl, inr, length, min}
+use Rattle.std.proofs.Common.{nat_lt, refl, set, subst, suc, sym, take, true, zero, ℕ, ◌*◌, ◌++◌, ◌+◌, ◌-◌, ◌/◌, ◌<◌, ◌==◌, ◌∙◌, ◌∷◌, ◌≡◌}
+use Rattle.std.proofs.Common.{◌≤◌}
+use Rattle.std.proofs.Math.Nat.{add-mul, div-eq-sub-div, div-eq_of_lt, div-mul-le_self, mul-add, mul-le-mul_right, mul_comm, suc-mul}
+use Rattle.buffer_pool.specs.Fitting.{first_fit, holes_after, looks_in, rooms, run_starts, shortened, starts_in, taken, too_small}
 use Rattle.std.specs.Prelude.{All}
 use Rattle.std.specs.List.{prefix_len}
-use Rattle.std.proofs.Math.Nat.{suc-mul, mul_comm, add-mul, mul-add, mul-le-mul_right, div-eq_of_lt, div-eq-sub-div, div-mul-le_self}
-use Rattle.std.proofs.lemmas.Bool.{cases_Bool, lt-ltb, le-ltb, ltb-false, eq-eqb, eqb-true, eqb-false, ne_eqb, cases_lt}
-use Rattle.std.proofs.lemmas.List.{append-nil, take-append-drop, drop_more, drop-drop, drop-set-lt, take_more_set, length-set}
+use Rattle.std.proofs.lemmas.Bool.{cases_Bool, cases_lt, eq-eqb, eqb-false, eqb-true, le-ltb, lt-ltb, ne_eqb}
+use Rattle.std.proofs.lemmas.List.{append-nil, drop-drop, drop-set-lt, drop_more, length-set, take-append-drop, take_more_set}
 use Rattle.std.proofs.lemmas.List.Elements.{All-drop, All-head, All-set}
-use Rattle.std.proofs.lemmas.List.Sums.{sum_by-cons, sum_by-append}
+use Rattle.std.proofs.lemmas.List.Sums.{sum_by-append, sum_by-cons}
 use Rattle.sm_names.specs.declared.keys.Interval.{Interval}
-use Rattle.buffer_pool.specs.Fitting.{too_small, rooms, first_fit, shortened, taken, starts_in, holes_after, looks_in, run_starts}
 use Rattle.buffer_pool.specs.Rows.{IsSane}
-use Rattle.buffer_pool.proofs.Placing.{rooms-taken, rooms-some, length-taken}
+use Rattle.buffer_pool.proofs.Least.{length-taken, rooms-some, rooms-taken}
+
+-- a start that is pushed is the first of a run, and the starts of the others follow it
+pub starts_pushed : (xs : List ℕ) (next pages left rest : ℕ) → left ≡ suc rest →
+    (xs ++ next ∷ []) ++ run_starts (next + pages) pages rest ≡ xs ++ run_starts next pages left
+starts_pushed xs next pages left rest is =
+    append_assoc xs (next ∷ []) (run_starts (next + pages) pages rest) ∙ ap (λ n. xs ++ run_starts next pages n) (sym is)
+
+-- this many pages, one time and the others
+pub one_more : (n pages : ℕ) → 0 < n → n * pages ≡ (n - 1) * pages + pages
+one_more zero pages some = absurd (omega arith)
+one_more (suc n) pages some = let less : suc n - 1 ≡ n = omega arith in suc-mul n pages ∙ ap (λ k. k * pages + pages) (sym less)
+
+-- each buffer has a start
+pub length-run : (start pages n : ℕ) → length (run_starts start pages n) ≡ n
+length-run start pages zero = refl
+length-run start pages (suc n) = let r = length-run (start + pages) pages n in omega (arith, r)
+
+-- ---- buffers that are taken from holes one after another
 
 -- a hole that is not too small has room for one, since the quotient is not 0
 pub room_for_one : (pages whole : ℕ) → 1 ≤ pages → pages ≤ whole → 1 ≤ whole / pages
@@ -92,14 +111,11 @@ shortened-more m pages all h hs sum le =
     elim (cases_Bool (h.pages == all)) [
       | inl e ↦
           let same : h.pages ≡ all = eqb-true _ _ e in
-          let e' : ((h.pages - pages) == m) ≡ true = eq-eqb _ _ (omega arith) in
-          rw (e, e') refl
+          rw (e, eq-eqb _ _ (omega arith)) refl
       | inr d ↦
-          let other : (h.pages ≡ all) → ⊥ = eqb-false _ _ d in
-          let d' : ((h.pages - pages) == m) ≡ false = ne_eqb _ _ (λ same. other (omega arith)) in
           let start : h.start + pages + m ≡ h.start + all = omega arith in
           let left : h.pages - pages - m ≡ h.pages - all = omega arith in
-          rw (d, d') (λ i. record { start = start i; pages = left i } ∷ hs)
+          rw (d, ne_eqb _ _ (λ same. (eqb-false _ _ d) (omega arith))) (λ i. record { start = start i; pages = left i } ∷ hs)
     ]
 
 -- where buffers side by side at the front of the first hole lie, and what taking them makes
@@ -122,21 +138,19 @@ front_run pages zero h hs one le =
       holes = rest ∙ ap (λ m. shortened m h hs) (sym whole);
     }
 front_run pages (suc n) h hs one le =
-    let more : suc (suc n) * pages ≡ suc n * pages + pages = suc-mul (suc n) pages in
     let more' : suc n * pages ≡ n * pages + pages = suc-mul n pages in
     let fits : too_small pages h ≡ false = le-ltb _ _ (omega arith) in
-    let other : (h.pages == pages) ≡ false = ne_eqb _ _ (λ same. absurd (omega arith)) in
     let h' : Interval = record { start = h.start + pages; pages = h.pages - pages } in
     let start : first_fit pages (h ∷ hs) ≡ h.start = rw fits refl in
     let nearest : prefix_len (too_small pages) (h ∷ hs) ≡ 0 = rw fits refl in
-    let rest : taken pages (h ∷ hs) ≡ h' ∷ hs = rw (fits, other) refl in
+    let rest : taken pages (h ∷ hs) ≡ h' ∷ hs = rw (fits, ne_eqb _ _ (λ same. absurd (omega arith))) refl in
     let r = front_run pages n h' hs one (omega arith) in
     let looks : looks_in pages (suc n) (taken pages (h ∷ hs)) ≡ suc n = ap (looks_in pages (suc n)) rest ∙ r.looks in
     record {
       starts = (λ i. start i ∷ starts_in pages (suc n) (rest i)) ∙ ap (λ ss. h.start ∷ ss) r.starts;
       looks = omega (arith, looks, nearest);
       holes = ap (holes_after pages (suc n)) rest ∙ r.holes
-          ∙ shortened-more (suc n * pages) pages (suc (suc n) * pages) h hs more le;
+          ∙ shortened-more (suc n * pages) pages (suc (suc n) * pages) h hs (suc-mul (suc n) pages) le;
     }
 
 -- what stays of a hole of which this many pages are taken
@@ -148,13 +162,9 @@ shortened-part : (m : ℕ) (h : Interval) (hs : List Interval) → m ≤ h.pages
 shortened-part m h hs le =
     elim (cases_lt m h.pages) [
       | inl some ↦
-          let other : (h.pages == m) ≡ false = ne_eqb _ _ (λ e. absurd (omega arith)) in
-          let y : nat_lt m h.pages ≡ true = lt-ltb _ _ some in
-          rw (other, y) refl
+          rw (ne_eqb _ _ (λ e. absurd (omega arith)), lt-ltb _ _ some) refl
       | inr none ↦
-          let same : (h.pages == m) ≡ true = eq-eqb _ _ (omega arith) in
-          let n : nat_lt m h.pages ≡ false = le-ltb _ _ none in
-          rw (same, n) refl
+          rw (eq-eqb _ _ (omega arith), le-ltb _ _ none) refl
     ]
 
 -- what so many buffers make of two lists of holes in a row
@@ -172,8 +182,7 @@ pub passing : (pages n : ℕ) (ps qs : List Interval) → 1 ≤ pages → rooms 
     InRow pages n ps qs qs (ps ++ holes_after pages n qs) (n * length ps)
 passing pages n [] qs one none = record { starts = refl; looks = omega arith; holes = refl }
 passing pages n (h ∷ ps) qs one none =
-    let small : h.pages < pages = none-small pages h one (omega (arith, rooms-cons pages h ps)) in
-    let b = behind pages n h (ps ++ qs) (lt-ltb _ _ small) in
+    let b = behind pages n h (ps ++ qs) (lt-ltb _ _ (none-small pages h one (omega (arith, rooms-cons pages h ps)))) in
     let r = passing pages n ps qs one (omega (arith, rooms-cons pages h ps)) in
     record {
       starts = b.starts ∙ r.starts;
@@ -243,8 +252,7 @@ pub rooms-after : (pages n : ℕ) (hs : List Interval) → 1 ≤ pages → n ≤
     rooms pages hs ≡ n + rooms pages (holes_after pages n hs)
 rooms-after pages zero hs one le = omega arith
 rooms-after pages (suc n) hs one le =
-    let some : prefix_len (too_small pages) hs < length hs = rooms-some pages hs one (omega arith) in
-    let t = rooms-taken pages hs one some in
+    let t = rooms-taken pages hs one (rooms-some pages hs one (omega arith)) in
     omega (arith, t, rooms-after pages n (taken pages hs) one (omega (arith, t)))
 
 -- each buffer has a start
@@ -278,11 +286,10 @@ front_of : (pages k : ℕ) (h : Interval) (hs : List Interval) → 1 ≤ pages �
     (starts_in pages k (h ∷ hs) ≡ run_starts h.start pages k) × (looks_in pages k (h ∷ hs) ≡ k)
     × (holes_after pages k (h ∷ hs) ≡ part (k * pages) h ++ hs)
 front_of pages zero h hs one some le =
-    let y : nat_lt 0 h.pages ≡ true = lt-ltb _ _ some in
     let none : zero * pages ≡ 0 = omega arith in
     let start : h.start ≡ h.start + 0 = omega arith in
     let same : h.pages ≡ h.pages - 0 = omega arith in
-    (refl, refl, rw (none, y) (λ i. record { start = start i; pages = same i } ∷ hs))
+    (refl, refl, rw (none, lt-ltb _ _ some) (λ i. record { start = start i; pages = same i } ∷ hs))
 front_of pages (suc n) h hs one some le =
     let r = front_run pages n h hs one le in (r.starts, r.looks, r.holes ∙ shortened-part (suc n * pages) h hs le)
 
@@ -295,23 +302,19 @@ next_hole pages most n k all kept h left one some lt is t =
     let m = more pages n k all in
     let p = passing pages k kept (h ∷ left) one (t.small lt) in
     let f = front_of pages k h left one some fits in
-    let before : rooms pages all ≡ n + rooms pages (kept ++ h ∷ left) = rooms-after pages n all one t.few ∙ ap (λ hs. n + rooms pages hs)
-    t.holes in
+    let before = rooms-after pages n all one t.few ∙ ap (λ hs. n + rooms pages hs) t.holes in
     let sum : rooms pages (kept ++ h ∷ left) ≡ h.pages / pages + rooms pages left =
     omega (arith, rooms-append pages kept (h ∷ left), rooms-cons pages h left, t.small lt) in
     let few : n + k ≤ rooms pages all = omega arith in
     let holes : holes_after pages (n + k) all ≡ (kept ++ part (k * pages) h) ++ left =
     m.holes ∙ ap (holes_after pages k) t.holes ∙ p.holes ∙ ap (λ r. kept ++ r) f.2 ∙ sym (append_assoc kept (part (k * pages) h) left) in
-    let after : rooms pages all ≡ n + k + rooms pages ((kept ++ part (k * pages) h) ++ left) =
-    rooms-after pages (n + k) all one few ∙ ap (λ hs. n + k + rooms pages hs) holes in
+    let after = rooms-after pages (n + k) all one few ∙ ap (λ hs. n + k + rooms pages hs) holes in
     let parts = rooms-append pages (kept ++ part (k * pages) h) left in
-    let looks : looks_in pages k (holes_after pages n all) ≡ k * length kept + k =
-    ap (looks_in pages k) t.holes ∙ p.looks ∙ ap (λ l. k * length kept + l) f.1 in
     let times : k * (length kept + 1) ≡ k * length kept + k = ap (λ x. k * x) (add-one (length kept)) ∙ times-more k (length kept) in
     record {
       next = record { holes = holes; few = few; within = omega arith; small = λ less. omega arith };
       starts = m.starts ∙ ap (λ s. starts_in pages n all ++ s) (ap (starts_in pages k) t.holes ∙ p.starts ∙ f.0);
-      looks = omega (arith, m.looks);
+      (ap (looks_in pages k) t.holes ∙ p.looks ∙ ap (λ l. k * length kept + l) f.1) = omega (arith, m.looks);
       fits = fits;
     }
 
@@ -366,13 +369,11 @@ module _ (pages most n k : ℕ) (all now : List Interval) (kept at greatest : �
   walked_kept less =
       let x : Interval = record { start = h.start + k * pages; pages = h.pages - k * pages } in
       let in_it : kept < length now = omega (arith, w.order) in
-      let front : take (kept + 1) (set now kept x) ≡ take kept now ++ x ∷ [] = take_more_set now kept x in_it in
       let behind : drop (at + 1) (set now kept x) ≡ drop (at + 1) now = drop-set-lt (at + 1) now kept x (omega (arith, w.order)) in
-      let y : nat_lt (k * pages) h.pages ≡ true = lt-ltb _ _ less in
-      let t : IsTaking pages most (n + k) all (take kept now ++ x ∷ []) (drop (at + 1) now) = rw y at next_here.next in
+      let t : IsTaking pages most (n + k) all (take kept now ++ x ∷ []) (drop (at + 1) now) = rw (lt-ltb _ _ less) at next_here.next in
       let few : h.pages ≤ greatest = subst (λ (g : Interval). g.pages ≤ greatest) (sym here) (w.bound at h there) in
       record {
-        taking = rw (front, behind) t;
+        taking = rw (take_more_set now kept x in_it, behind) t;
         rest = behind ∙ rest_next;
         order = omega (arith, w.order);
         within = omega (arith, length-set now kept x);
@@ -383,8 +384,7 @@ module _ (pages most n k : ℕ) (all now : List Interval) (kept at greatest : �
   -- a hole of which nothing stays is passed
   pub walked_gone : h.pages ≤ k * pages → IsWalked pages most (n + k) all now kept (at + 1) greatest
   walked_gone none =
-      let y : nat_lt (k * pages) h.pages ≡ false = le-ltb _ _ none in
-      let t : IsTaking pages most (n + k) all (take kept now ++ []) (drop (at + 1) now) = rw y at next_here.next in
+      let t : IsTaking pages most (n + k) all (take kept now ++ []) (drop (at + 1) now) = rw (le-ltb _ _ none) at next_here.next in
       record {
         taking = subst (λ r. IsTaking pages most (n + k) all r (drop (at + 1) now)) (append-nil (take kept now)) t;
         rest = rest_next;

@@ -2,4 +2,3 @@
 pub mod Changes
 pub mod Kinds
 pub mod Order
-pub mod Passed

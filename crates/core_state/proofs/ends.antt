@@ -1,6 +1,5 @@
 -- What an event makes of the ends of nodes, and what is forgotten.
 pub mod Finishing
-pub mod Forgotten
 pub mod NotRead
 pub mod Spending
 pub mod Transfers

@@ -1,4 +1,3 @@
 -- What an event makes of the trackers, and what they look at.
 pub mod Fields
-pub mod NextTrackers
 pub mod Sweeps

@@ -1,10 +1,7 @@
 -- The work of an event: its change, and the steps that it forces.
-pub mod Beginning
-pub mod CallStep
 pub mod Change
 pub mod Dropping
 pub mod Fits
-pub mod Fitting
 pub mod ForcedStep
 pub mod Forest
 pub mod Known
@@ -13,5 +10,3 @@ pub mod NothingForced
 pub mod Settled
 pub mod Starting
 pub mod StillOut
-pub mod Whole
-pub mod Work

@@ -1,6 +1,4 @@
 -- Lists, whatever is in them.
 pub mod ByNumber
 pub mod Maps
-pub mod Parts
 pub mod Reorderings
-pub mod Sorted

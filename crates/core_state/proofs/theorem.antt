@@ -1,5 +1,4 @@
 -- The headline: an event of a core is an event of the abstract machine.
-pub mod Event
 pub mod EventCount
 pub mod EventParts
 pub mod Fields
@@ -9,6 +8,5 @@ pub mod Idle
 pub mod Leads
 pub mod Recalling
 pub mod Runs
-pub mod Sweeping
 pub mod OfHistory
 pub mod Keeps

@@ -3,11 +3,11 @@ use Rattle.event_laws.proofs.Common.{Birth, Bound, Call, Called, Condition, Entr
 use Rattle.event_laws.proofs.Common.{IsOf, List, Mark, Named, NodeKey, None, Option, Reply, Some, Timeline, Tracked, [], after, ap}
 use Rattle.event_laws.proofs.Common.{birth_at, birth_of, birth_was_born, births, collection_at, collection_in, collection_of_node, comes}
 use Rattle.event_laws.proofs.Common.{cons_option, eq-eqb, events, false, fired_at, first_some, inl, inr, is_event, is_tracked_met}
-use Rattle.event_laws.proofs.Common.{kept-after, kept-grown, list_any, map-Some, named, none_key, option_map, option_map_or, other_key}
-use Rattle.event_laws.proofs.Common.{readings, refl, same_key, subst, sym, took_effect_all, tracked, tracked_at, tracker_made}
-use Rattle.event_laws.proofs.Common.{trackers_to_test, true, unfired_trackers, was_born, world, ℕ, ◌+◌, ◌==◌, ◌∙◌, ◌∷◌, ◌≡◌}
+use Rattle.event_laws.proofs.Common.{kept-after, kept-grown, map-Some, named, none_key, option_map, option_map_or, other_key, readings}
+use Rattle.event_laws.proofs.Common.{refl, subst, sym, took_effect_all, tracked, tracked_at, tracker_made, trackers_to_test, true}
+use Rattle.event_laws.proofs.Common.{unfired_trackers, was_born, world, ℕ, ◌+◌, ◌==◌, ◌∙◌, ◌∷◌, ◌≡◌}
 use Rattle.history_laws.proofs.ApartLaws.{as_before}
-use Rattle.event_laws.proofs.FiringLaws.{not_due}
+use Rattle.event_laws.proofs.NumberLaws.{not_due}
 use Rattle.event_laws.proofs.MomentLaws.{only_events, tracked_after}
 use Rattle.history_laws.proofs.SettledLaws.{same_births}
 use Rattle.event_laws.proofs.WaitingLaws.{In-waiting}
@@ -91,8 +91,7 @@ collection_stays limits marks client reply call key collection answer here =
     with_new (Some b) e =
         let t = map-Some (λ (x : Birth). x.collection) (birth_of marks key) collection here in
         let born : was_born (births marks) key ≡ true = birth_was_born marks key t.0 t.1 in
-        let other : same_key b.node key ≡ false =
-        other_key (births marks) key b.node born (comes limits marks client (events marks + 1) reply call b answer e).fresh in
+        let other = other_key (births marks) key b.node born (comes limits marks client (events marks + 1) reply call b answer e).fresh in
         rw other here
 
 -- so a call leaves what concerns a collection
@@ -155,8 +154,7 @@ others_not_due pool limits marks entry collection g answer away t on of_it =
     elim (In-append (unfired_trackers marks) (tracker_made marks entry) t on) [
       | inl waits ↦
           let w = In-waiting marks t waits in
-          let attached : list_any (λ (u : Tracked). u.id == t.id) (tracked marks) ≡ true =
-          In-any (λ (u : Tracked). u.id == t.id) (tracked marks) t w.0 (eq-eqb t.id t.id refl) in
+          let attached = In-any (λ (u : Tracked). u.id == t.id) (tracked marks) t w.0 (eq-eqb t.id t.id refl) in
           let same : fired_at (after pool marks entry) t ≡ fired_at marks t =
           (as_before pool limits marks entry collection g answer away).trackers t of_it attached in
           not_due (after pool marks entry) t (still_tracked pool marks entry t w.0) (same ∙ w.1)

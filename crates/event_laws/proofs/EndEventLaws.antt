@@ -1,19 +1,25 @@
--- What one event does to ends: whether they are spent or in a parcel, and their holders.
-use Rattle.event_laws.proofs.Common.{Birth, Bool, Bound, Call, Called, Entry, Grows, IsAnswer, IsDrawn, IsLegal, List, NodeKey, None}
-use Rattle.event_laws.proofs.Common.{Option, Reply, Some, Timeline, [], and_right, any_one, ap, binds, birth_at, birth_of, births}
-use Rattle.event_laws.proofs.Common.{both_ways, clients, collector, collector_at, comes, cond, cons_option, delivers, either_way}
-use Rattle.event_laws.proofs.Common.{entry_mark, events, false, holder, in_transit, inl, inr, is_end_of, list_any, not, one_if}
-use Rattle.event_laws.proofs.Common.{option_map_or, or_both, other_key, parcels, readings, refl, same_key, same_key-refl, sends, spends}
-use Rattle.event_laws.proofs.Common.{spent, sum_by, sum_by-same, sum_once, sym, timeline, times, true, was_born, ℕ, ◌&&◌, ◌++◌, ◌+◌, ◌==◌}
-use Rattle.event_laws.proofs.Common.{◌||◌, ◌∙◌, ◌∷◌, ◌≡◌}
+-- What one event does to ends: whether they are spent or in a parcel, and their holders. How many parcels wait for a client at most.
+use Rattle.event_laws.proofs.Common.{Birth, Bool, Bound, BufferName, Call, Called, Entry, Grows, In, In-list_any, IsAnswer, IsDrawn}
+use Rattle.event_laws.proofs.Common.{IsLegal, List, NodeKey, None, Option, Parcel, Reply, Some, Strength, Timeline, [], and_right}
+use Rattle.event_laws.proofs.Common.{any_one, ap, arith, binds, birth_at, birth_of, births, both_ways, clients, collector, collector_at}
+use Rattle.event_laws.proofs.Common.{comes, cond, cons_option, delivers, either_way, entry_mark, eqb-true, events, false, gone}
+use Rattle.event_laws.proofs.Common.{has_joined, holder, in_transit, inl, inr, is_end_of, list_any, moving, not, one, one_if}
+use Rattle.event_laws.proofs.Common.{option_map_or, or_both, or_right, other_key, parcels, readings, refl, same_key, same_key-refl}
+use Rattle.event_laws.proofs.Common.{same_key-true, sends, spends, spent, subst, sum_by, sum_by-add, sum_by-cons, sum_by-same, sum_once}
+use Rattle.event_laws.proofs.Common.{sym, timeline, times, times-cons, true, was_born, ℕ, ◌&&◌, ◌++◌, ◌+◌, ◌==◌, ◌||◌, ◌∙◌, ◌∷◌, ◌≡◌, ◌≤◌}
 use Rattle.std.specs.List.{find}
 use Rattle.sm_names.specs.declared.keys.Kind.{Kind}
-use Rattle.sm_names.specs.Ends.{kind}
+use Rattle.sm_names.specs.Ends.{is_handle_of, kind}
 use Rattle.history_laws.proofs.BirthLaws.{Comes}
-use Rattle.history_laws.proofs.CountLaws.{counted}
+use Rattle.history_laws.proofs.CountLaws.{counted, moving_is}
 use Rattle.event_laws.proofs.FreeEndLaws.{FreeEnd, sends_free, spends_free}
 use Rattle.event_laws.proofs.HandLaws.{NextEvent, next_event}
-use Rattle.event_laws.proofs.TransitLaws.{EndAt, end_at, transit_mark, delivers_waited, unborn_idle}
+use Rattle.event_laws.proofs.TransitLaws.{EndAt, delivers_waited, end_at, transit_mark, unborn_idle}
+use Rattle.sm_names.specs.Kept.{is_kept, kept_nodes}
+use Rattle.sm_names.proofs.SamenessLaws.{or_left}
+use Rattle.history_laws.proofs.SumLaws.{In-le-sum_by}
+use Rattle.event_laws.specs.ByEvent.{is_end}
+use Rattle.event_laws.proofs.ParcelEventLaws.{stranger_waits_for_none}
 
 -- ---- the holder of an end
 
@@ -50,19 +56,16 @@ holder_mark limits marks caller reply call node answer born = from (collector_at
 born_to_caller : (event caller : ℕ) (reply : Reply) (call : Call) (b : Birth) → birth_at event (Called caller reply call) ≡ Some b →
     b.client ≡ caller
 born_to_caller event caller (Reply.Token key collection) Call.OpenRoot b h =
-    let same : Some (record { node = key; parent = None; attached = false; collection = collection; event = event; client = caller }) ≡ Some
-    b = h in
+    let same = h in
     let is : record { node = key; parent = None; attached = false; collection = collection; event = event; client = caller } ≡ b = cc in
     ap (λ (c : Birth). c.client) (sym is)
 born_to_caller event caller (Reply.Token key collection) (Call.Duplicate parent) b h =
-    let same : Some (record { node = key; parent = Some parent; attached = false; collection = collection; event = event; client = caller })
-    ≡ Some b = h in
+    let same = h in
     let is : record { node = key; parent = Some parent; attached = false; collection = collection; event = event; client = caller } ≡ b =
     cc in
     ap (λ (c : Birth). c.client) (sym is)
 born_to_caller event caller (Reply.Token key collection) (Call.AttachToken parent) b h =
-    let same : Some (record { node = key; parent = Some parent; attached = true; collection = collection; event = event; client = caller })
-    ≡ Some b = h in
+    let same = h in
     let is : record { node = key; parent = Some parent; attached = true; collection = collection; event = event; client = caller } ≡ b =
     cc in
     ap (λ (c : Birth). c.client) (sym is)
@@ -73,8 +76,7 @@ born_held : (limits : Bound) (marks : Timeline) (caller : ℕ) (reply : Reply) (
     IsAnswer limits (readings marks) caller call reply → birth_at (events marks + 1) (Called caller reply call) ≡ Some b →
     collector (Called caller reply call ∷ marks) b.node ≡ None → holder (Called caller reply call ∷ marks) b.node ≡ caller
 born_held limits marks caller reply call b answer h nobody =
-    let found : birth_of (Called caller reply call ∷ marks) b.node ≡ Some b =
-    ap (λ (o : Option Birth). find (λ x. same_key x.node b.node) (cons_option o (births marks))) h ∙ first in
+    let found = ap (λ (o : Option Birth). find (λ x. same_key x.node b.node) (cons_option o (births marks))) h ∙ first in
     (λ i. option_map_or (λ c. c) (nobody i) (option_map_or (λ (x : Birth). x.client) (found i) 0))
     ∙ born_to_caller (events marks + 1) caller reply call b h
   where
@@ -198,3 +200,81 @@ module _ (pool : ℕ) (limits : Bound) (history : List Entry) (entry : Entry) (l
         (λ i. next.same.kinds i b.node) ∙ ap (λ (t : Bool). cond t Kind.Collection Kind.Token) (or_both (binds b.node (entry_mark entry))
             (list_any (binds b.node) old) idle.3 u.3),
       )
+
+-- ---- how many parcels wait for a client at most
+
+-- a sum is no less if each number is no less
+sum_by-le : {A : Type 0} (f g : A → ℕ) (xs : List A) → ((x : A) → f x ≤ g x) → sum_by f xs ≤ sum_by g xs
+sum_by-le f g [] le = omega arith
+sum_by-le f g (x ∷ xs) le =
+    omega (arith, sum_by-le f g xs le, le x, sum_by-cons f x xs, sum_by-cons g x xs)
+
+-- the end of a node that was born is counted with some birth
+counted_once : (bs : List Birth) (key : NodeKey) → was_born bs key ≡ true →
+    1 ≤ sum_by (λ (b : Birth). one (is_end_of b.node (Parcel.End key))) bs
+counted_once bs key born =
+    let b = In-list_any (λ (x : Birth). same_key x.node key) bs born in
+    let counts : one (same_key key b.0.node) ≡ 1 = ap one (ap (same_key key) (same_key-true b.0.node key b.2) ∙ same_key-refl key) in
+    omega (arith, counts, In-le-sum_by (λ (x : Birth). one (is_end_of x.node (Parcel.End key))) bs b.0 b.1)
+
+-- if the ends are of nodes that were born, the births count each of them
+ends_by_birth : (bs : List Birth) (ps : List Parcel) → ((node : NodeKey) → list_any (is_end_of node) ps ≡ true → was_born bs node ≡ true) →
+    times is_end ps ≤ sum_by (λ (b : Birth). times (is_end_of b.node) ps) bs
+ends_by_birth bs [] born = omega arith
+ends_by_birth bs (p ∷ ps) born =
+    let rest = ends_by_birth bs ps (λ node h. born node (or_right (is_end_of node p) _ h)) in
+    let all : sum_by (λ (b : Birth). times (is_end_of b.node) (p ∷ ps)) bs
+    ≡ sum_by (λ (b : Birth). times (is_end_of b.node) ps) bs + sum_by (λ (b : Birth). one (is_end_of b.node p)) bs =
+    sum_by-same (λ (b : Birth). times (is_end_of b.node) (p ∷ ps))
+    (λ (b : Birth). times (is_end_of b.node) ps + one (is_end_of b.node p)) bs
+    (λ b. times-cons (is_end_of b.node) p ps)
+    ∙ sum_by-add (λ (b : Birth). times (is_end_of b.node) ps) (λ (b : Birth). one (is_end_of b.node p)) bs in
+    omega (arith, rest, all, at_head p (λ node h. born node (or_left _ _ h)), times-cons is_end p ps)
+  where
+    -- by cases: the birth of an end's node counts it, and a handle is no end
+    at_head : (q : Parcel) → ((node : NodeKey) → is_end_of node q ≡ true → was_born bs node ≡ true) →
+        one (is_end q) ≤ sum_by (λ (b : Birth). one (is_end_of b.node q)) bs
+    at_head (Parcel.End key) known = counted_once bs key (known key (same_key-refl key))
+    at_head (Parcel.Handle buffer strength) known = omega arith
+
+-- a node whose end waits for a client is kept, and its end waits once
+waits-le-kept : (pool : ℕ) (limits : Bound) (marks : Timeline) → Grows pool limits [] marks → (client : ℕ) (b : Birth) →
+    times (is_end_of b.node) (parcels marks client) ≤ cond (is_kept marks b.node) 1 0
+waits-le-kept pool limits marks g client b =
+    let e : EndAt marks b.node = end_at pool limits marks g b.node in
+    elim (either_way (e.place == client && in_transit marks b.node)) [
+      | inl here ↦
+          let unspent : spent marks b.node ≡ false = e.unspent (and_right (e.place == client) (in_transit marks b.node) here) in
+          rw (or_right (not (gone marks b.node)) _ (ap not unspent)) (omega (arith, e.waits client ∙ ap one here))
+      | inr other ↦
+          omega (arith, e.waits client ∙ ap one other)
+    ]
+
+-- no more ends wait for a client than nodes are kept: each is the end of another node, and not spent
+pub ends-le-kept : (pool : ℕ) (limits : Bound) (marks : Timeline) → Grows pool limits [] marks → (client : ℕ) →
+    times is_end (parcels marks client) ≤ kept_nodes marks
+ends-le-kept pool limits marks g client =
+    let born : times is_end (parcels marks client)
+    ≤ sum_by (λ (b : Birth). times (is_end_of b.node) (parcels marks client)) (births marks) =
+    ends_by_birth (births marks) (parcels marks client)
+    (λ node h. in_transit_born pool limits marks g node (waits_in_transit pool limits marks g node client h)) in
+    let kept : sum_by (λ (b : Birth). times (is_end_of b.node) (parcels marks client)) (births marks) ≤ kept_nodes marks =
+    sum_by-le (λ (b : Birth). times (is_end_of b.node) (parcels marks client)) (λ (b : Birth). cond (is_kept marks b.node) 1 0)
+    (births marks) (waits-le-kept pool limits marks g client) in
+    omega (arith, born, kept)
+
+-- no more handles wait for a client than are in parcels: what is in parcels waits for some client
+pub handles-le-moving : (pool : ℕ) (limits : Bound) (marks : Timeline) → Grows pool limits [] marks → (client : ℕ) (buffer : BufferName)
+    (strength : Strength) → times (is_handle_of buffer strength) (parcels marks client) ≤ moving marks buffer strength
+handles-le-moving pool limits marks g client buffer strength = elim (either_way (has_joined marks client)) [
+  | inl joined ↦
+      let a = In-list_any (λ k. k == client) (clients marks) joined in
+      let on : In client (clients marks) = subst (λ k. In k (clients marks)) (eqb-true a.0 client a.2) a.1 in
+      omega (
+        arith,
+        In-le-sum_by (λ k. times (is_handle_of buffer strength) (parcels marks k)) (clients marks) client on,
+        moving_is marks (counted pool limits marks g) buffer strength,
+      )
+  | inr none ↦
+      omega (arith, ap (times (is_handle_of buffer strength)) (stranger_waits_for_none pool limits marks g client none))
+]

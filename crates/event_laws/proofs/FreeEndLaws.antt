@@ -48,8 +48,7 @@ free_end limits marks client call reply key answer stands is =
     let resting : in_transit marks h.birth.node ≡ false = passed (in_transit marks h.birth.node) Refusal.InTransit t in
     let o : refused_if (not (holder marks h.birth.node == client) && not (in_transit marks h.birth.node)) Refusal.NoSuchEnd ≡ None =
     rw (is, h.unspent, h.is) at c.0 in
-    let whose : (holder marks h.birth.node == client) ≡ true =
-    own (holder marks h.birth.node == client) (in_transit marks h.birth.node) (passed _ Refusal.NoSuchEnd o) resting in
+    let whose = own (holder marks h.birth.node == client) (in_transit marks h.birth.node) (passed _ Refusal.NoSuchEnd o) resting in
     record {
       born = birth_was_born marks key h.birth h.is;
       unspent = h.unspent;

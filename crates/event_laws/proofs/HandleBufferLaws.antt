@@ -62,13 +62,11 @@ stranger_has_none pool limits _ (Answers before caller reply call g answer) clie
     let none : gains (only client) buffer strength mark ≡ false =
     false_if (gains (only client) buffer strength mark) (λ y.
     both_ways (has_joined before client) (gains_joined limits before caller reply call answer client buffer strength y) stranger) in
-    let had : open_of before client buffer strength ≡ 0 = stranger_has_none pool limits before g client buffer strength stranger in
     let goes : GoesBy (open_of before client buffer strength) (open_of (mark ∷ before) client buffer strength)
     (gains (only client) buffer strength mark) (loses (only client) buffer strength mark) =
     open_of_mark before mark (counted pool limits before g) (counted pool limits (mark ∷ before) (Answers before caller reply call g
     answer)) buffer strength client in
-    let zero : one_if (gains (only client) buffer strength mark) ≡ 0 = ap one_if none in
-    omega (arith, had, goes.adds_up, zero)
+    omega (arith, stranger_has_none pool limits before g client buffer strength stranger, goes.adds_up, ap one_if none)
 
 -- ---- the buffer of a handle is there
 
@@ -87,10 +85,9 @@ stays_named pool before mark (New collection buffers starts lays fit fresh same)
     names buffer.collection b.count) o []) ≡ true) (sym (same buffer.collection)) (elim (either_way (collection == buffer.collection)) [
       | inl e ↦
           let c : collection ≡ buffer.collection = eqb-true collection buffer.collection e in
-          let none : buffers_of before buffer.collection ≡ None = ap (buffers_of before) (sym c) ∙ fresh in
           let empty : false ≡ true =
           subst (λ (o : Option Buffers). list_any (λ name. same_buffer name buffer) (option_map_or (λ (b : Buffers).
-          names buffer.collection b.count) o []) ≡ true) none h in
+          names buffer.collection b.count) o []) ≡ true) (ap (buffers_of before) (sym c) ∙ fresh) h in
           cc
       | inr e ↦ rw e h
     ])
@@ -116,10 +113,9 @@ opens_named pool limits before g client (Reply.Taken collection taken set) (Call
 opens_named pool limits before g client Reply.Done (Call.DupHandle name dup) answer buffer strength old y =
     let b_is : name ≡ buffer = same_buffer-true name buffer (and_left _ _ y) in
     let d_is : dup ≡ strength = same_strength-true dup strength (and_right (same_buffer name buffer) _ y) in
-    let was : 0 < open_of before client name dup = dup_was_open limits before client name dup answer in
     let was' : 0 < open_of before client buffer strength =
     subst (λ (s : Strength). 0 < open_of before client buffer s) d_is (subst (λ (n : BufferName). 0 < open_of before client n dup) b_is
-    was) in
+    (dup_was_open limits before client name dup answer)) in
     let le : open_of before client buffer strength ≤ open_total before buffer strength =
     client-le-total before (counted pool limits before g) client buffer strength (caller_joined limits before client Reply.Done
     (Call.DupHandle name dup) answer refl) in
@@ -154,8 +150,7 @@ pub has_named : (pool : ℕ) (limits : Bound) (marks : Timeline) → Grows pool 
 has_named pool limits marks g client buffer strength h =
     elim (either_way (has_joined marks client)) [
       | inl j ↦
-          let le : open_of marks client buffer strength ≤ open_total marks buffer strength =
-          client-le-total marks (counted pool limits marks g) client buffer strength j in
+          let le = client-le-total marks (counted pool limits marks g) client buffer strength j in
           open_named pool limits marks g buffer strength (omega (arith, h, le))
       | inr n ↦ let none : open_of marks client buffer strength ≡ 0 =
           stranger_has_none pool limits marks g client buffer strength n in absurd (omega (arith, h, none))
@@ -165,5 +160,4 @@ has_named pool limits marks g client buffer strength h =
 pub moving_named : (pool : ℕ) (limits : Bound) (marks : Timeline) → Grows pool limits [] marks →
     (buffer : BufferName) (strength : Strength) → 0 < moving marks buffer strength → IsNamed marks buffer
 moving_named pool limits marks g buffer strength h =
-    let t = total_is marks (counted pool limits marks g) buffer strength in
-    open_named pool limits marks g buffer strength (omega (arith, h, t))
+    open_named pool limits marks g buffer strength (omega (arith, h, total_is marks (counted pool limits marks g) buffer strength))

@@ -48,9 +48,8 @@ module _ (buffer : BufferName) (strength : Strength) where
   at_kind f b s other = elim (either_way (kind_test b s)) [
     | inr e ↦ rw e refl
     | inl e ↦
-        let what : buffer ≡ b = same_buffer-true buffer b (and_left _ _ e) in
         let how : strength ≡ s = same_strength-true strength s (and_right (same_buffer buffer b) _ e) in
-        λ i. cond (kind_test b s) (f (sym what i) (sym how i)) other
+        λ i. cond (kind_test b s) (f (sym (same_buffer-true buffer b (and_left _ _ e)) i) (sym how i)) other
   ]
 
   -- where either is the same, the test tells nothing
@@ -74,11 +73,10 @@ module _ (buffer : BufferName) (strength : Strength) where
     at_hold f c b s other = elim (either_way (hold_test c b s)) [
       | inr e ↦ rw e refl
       | inl e ↦
-          let who : client ≡ c = eqb-true client c (and_left _ _ e) in
           let k : kind_test b s ≡ true = and_right (client == c) _ e in
           let what : buffer ≡ b = same_buffer-true buffer b (and_left _ _ k) in
           let how : strength ≡ s = same_strength-true strength s (and_right (same_buffer buffer b) _ k) in
-          λ i. cond (hold_test c b s) (f (sym who i) (sym what i) (sym how i)) other
+          λ i. cond (hold_test c b s) (f (sym (eqb-true client c (and_left _ _ e)) i) (sym what i) (sym how i)) other
     ]
 
     -- the handle passes its own test

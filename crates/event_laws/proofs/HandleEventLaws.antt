@@ -2,7 +2,7 @@
 use Rattle.event_laws.proofs.Common.{Answers, Bool, Bound, BufferName, Call, Called, Entry, GoesBy, IsLegal, List, Mark, Reply, Strength}
 use Rattle.event_laws.proofs.Common.{Timeline, [], anyone, ap, arith, drops, drops-le-opens, entry_mark, false, false≢true}
 use Rattle.event_laws.proofs.Common.{is_about_handles, lands, lands-le-lifts, lifts, loses, moving, one_if, only, open_of, open_total}
-use Rattle.event_laws.proofs.Common.{opens, refl, timeline, times, times-cons, true, ℕ, ◌++◌, ◌+◌, ◌||◌, ◌∙◌, ◌∷◌, ◌≡◌, ◌≤◌}
+use Rattle.event_laws.proofs.Common.{opens, refl, timeline, times-cons, true, ℕ, ◌++◌, ◌+◌, ◌||◌, ◌∙◌, ◌∷◌, ◌≡◌}
 use Rattle.event_laws.specs.ByEvent.{gains}
 use Rattle.history_laws.proofs.CountLaws.{IsCounted, counted}
 use Rattle.event_laws.proofs.HandLaws.{NextEvent, next_event}
@@ -98,12 +98,8 @@ module _ (old : Timeline) (mark : Mark) (was : IsCounted old) (is : IsCounted (m
   pub open_of_mark : (client : ℕ) → GoesBy (open_of old client buffer strength) (open_of (mark ∷ old) client buffer strength)
       (gains (only client) buffer strength mark) (loses (only client) buffer strength mark)
   open_of_mark client =
-      let paid : times (drops (only client) buffer strength) old + times (lifts (only client) buffer strength) old ≤ times
-      (opens (only client) buffer strength) old + times (lands (only client) buffer strength) old =
-      was.paid client buffer strength in
-      let pays : times (drops (only client) buffer strength) (mark ∷ old) + times (lifts (only client) buffer strength) (mark ∷ old) ≤ times
-      (opens (only client) buffer strength) (mark ∷ old) + times (lands (only client) buffer strength) (mark ∷ old) =
-      is.paid client buffer strength in
+      let paid = was.paid client buffer strength in
+      let pays = is.paid client buffer strength in
       let o = times-cons (opens (only client) buffer strength) mark old in
       let d = times-cons (drops (only client) buffer strength) mark old in
       let u = times-cons (lifts (only client) buffer strength) mark old in
@@ -113,9 +109,7 @@ module _ (old : Timeline) (mark : Mark) (was : IsCounted old) (is : IsCounted (m
       record {
         adds_up = omega (arith, paid, pays, o, d, u, l, g, t);
         was_there = λ h. let none = loses_alone (only client) buffer strength mark h in
-            let some : one_if (loses (only client) buffer strength mark) ≡ 1 = ap one_if h in
-            let no : one_if (gains (only client) buffer strength mark) ≡ 0 = ap one_if none in
-            omega (arith, paid, pays, o, d, u, l, g, t, some, no);
+            omega (arith, paid, pays, o, d, u, l, g, t, ap one_if h, ap one_if none);
         not_both = loses_alone (only client) buffer strength mark;
       }
 
@@ -130,8 +124,7 @@ module _ (old : Timeline) (mark : Mark) (was : IsCounted old) (is : IsCounted (m
       record {
         adds_up = omega (arith, few, fewer, o, d);
         was_there = λ h. let some : one_if (drops anyone buffer strength mark) ≡ 1 = ap one_if h in
-            let no : one_if (opens anyone buffer strength mark) ≡ 0 = ap one_if (drops_alone anyone buffer strength mark h) in
-            omega (arith, few, fewer, o, d, some, no);
+            omega (arith, few, fewer, o, d, some, ap one_if (drops_alone anyone buffer strength mark h));
         not_both = drops_alone anyone buffer strength mark;
       }
 
@@ -146,8 +139,7 @@ module _ (old : Timeline) (mark : Mark) (was : IsCounted old) (is : IsCounted (m
       record {
         adds_up = omega (arith, few, fewer, o, d);
         was_there = λ h. let some : one_if (lands anyone buffer strength mark) ≡ 1 = ap one_if h in
-            let no : one_if (lifts anyone buffer strength mark) ≡ 0 = ap one_if (lands_alone anyone buffer strength mark h) in
-            omega (arith, few, fewer, o, d, some, no);
+            omega (arith, few, fewer, o, d, some, ap one_if (lands_alone anyone buffer strength mark h));
         not_both = lands_alone anyone buffer strength mark;
       }
 

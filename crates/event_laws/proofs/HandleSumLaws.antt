@@ -12,7 +12,7 @@ use Rattle.history_laws.proofs.CountLaws.{IsCounted, counted}
 use Rattle.sm_names.proofs.SamenessLaws.{and_swap}
 use Rattle.history_laws.proofs.SumLaws.{one_of, AreOnce}
 use Rattle.event_laws.specs.HandleSums.{all_moving, all_open, opened, dropped, sent, got}
-use Rattle.event_laws.proofs.HandleSumNamedLaws.{IsThere, lists_allocated, opens_there, drops_there, lifts_there, lands_there}
+use Rattle.event_laws.proofs.RecallLaws.{IsThere, drops_there, lands_there, lifts_there, lists_allocated, opens_there}
 use Rattle.event_laws.proofs.HandleCaseLaws.{same_buffer-refl}
 
 -- ---- numbers that are listed once
@@ -31,8 +31,7 @@ listed_once [] few = tt
 listed_once (n ∷ ns) few =
     let absent : one_of ns n ≡ false = elim (either_way (one_of ns n)) [
       | inl e ↦
-          let here : one (n == n) ≡ 1 = ap one (eq-eqb n n refl) in
-          absurd (omega (arith, few n, times-cons (λ m. m == n) n ns, here, listed_counted n ns e))
+          absurd (omega (arith, few n, times-cons (λ m. m == n) n ns, ap one (eq-eqb n n refl), listed_counted n ns e))
       | inr e ↦ e
     ] in
     (absent, listed_once ns (λ k. omega (arith, few k, times-cons (λ m. m == k) n ns)))
@@ -43,8 +42,7 @@ in_range a zero k low high = absurd (omega (arith, low, high))
 in_range a (suc n) k low high = elim (either_way (a == k)) [
   | inl e ↦ rw e refl
   | inr e ↦
-      let next : a + 1 ≤ k = above a k low e in
-      rw e (in_range (a + 1) n k next (omega (arith, high)))
+      rw e (in_range (a + 1) n k (above a k low e) (omega (arith, high)))
 ]
   where
     -- since the two numbers differ
@@ -243,8 +241,7 @@ module _ (cs is : List ℕ) (test : BufferName → Mark → Bool) (amount : Mark
   count_fold pool marks [] on = omega arith
   count_fold pool marks (e ∷ es) on =
       let on_mark : (b : BufferName) → test b (entry_mark e) ≡ true → IsListed cs is b = λ b h.
-      let this : one (test b (entry_mark e)) ≡ 1 = ap one h in
-      on b (omega (arith, this, count_after pool b marks e, count_grows pool b (after pool marks e) es)) in
+      on b (omega (arith, ap one h, count_after pool b marks e, count_grows pool b (after pool marks e) es)) in
       let next : grid cs is (λ b. times (test b) (after pool marks e))
       ≡ grid cs is (λ b. times (test b) marks + one (test b (entry_mark e))) =
       grid-same cs is (λ b. times (test b) (after pool marks e)) (λ b. times (test b) marks + one (test b (entry_mark e))) (λ b.
@@ -359,11 +356,9 @@ module _ (pool : ℕ) (limits : Bound) (history : List Entry) (legal : IsLegal p
       let l : BufferName → ℕ = λ b. times (lands (only client) b strength) marks in
       let each : (b : BufferName) → has b + (d b + u b) ≡ o b + l b =
       λ b. let paid : d b + u b ≤ o b + l b = are_counted.paid client b strength in omega (arith, paid) in
-      let sums : over_buffers collections has + over_buffers collections (λ b. d b + u b) ≡ over_buffers collections (λ b. o b + l b) =
-      two_sums has (λ b. d b + u b) (λ b. o b + l b) each in
       omega (
         arith,
-        sums,
+        two_sums has (λ b. d b + u b) (λ b. o b + l b) each,
         grid-add collections (range_with_len 0 MAX_BUFFERS) d u,
         grid-add collections (range_with_len 0 MAX_BUFFERS) o l,
         opened_sum (only client),

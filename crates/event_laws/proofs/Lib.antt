@@ -1,26 +1,17 @@
 mod Common
-pub mod AllocatedLaws
 pub mod ConcernLaws
-pub mod DifferLaws
 pub mod EndEventLaws
-pub mod FiringLaws
 pub mod FreeEndLaws
 pub mod HandLaws
 pub mod HandleBufferLaws
 pub mod HandleCaseLaws
 pub mod HandleEventLaws
 pub mod HandleSumLaws
-pub mod HandleSumNamedLaws
-pub mod LineLaws
-pub mod LinkLaws
-pub mod MemberLaws
 pub mod MomentLaws
 pub mod NumberLaws
-pub mod OpenLaws
 pub mod ParcelEventLaws
 pub mod RecallLaws
 pub mod SameLaws
 pub mod SetLaws
 pub mod TransitLaws
 pub mod WaitingLaws
-pub mod WaitingParcelLaws

@@ -124,23 +124,17 @@ module _ (limits : Bound) (marks : Timeline) (caller : ℕ) (reply : Reply) (cal
       (Called caller reply call))
       ≡ one_if (old.place == c && in_transit marks node) + one_if (taker call == c && sends node (Called caller reply call))
   waiting c =
-      let n = parcels_count limits marks caller reply call answer drawn c (is_end_of node) in
-      let g : one_if (option_map_or (is_end_of node) (collected_at c mark) false) ≡ one_if (caller == c && delivers node mark) =
-      ap one_if (got_is node c caller reply call) in
-      let b : one_if (option_map_or (is_end_of node) (given_at c mark) false) ≡ one_if (taker call == c && sends node mark) =
-      ap one_if (brought_is node c caller reply call) in
-      let w = old.waits c in
-      omega (arith, n, g, b, w)
+      let g = ap one_if (got_is node c caller reply call) in
+      let b = ap one_if (brought_is node c caller reply call) in
+      omega (arith, parcels_count limits marks caller reply call answer drawn c (is_end_of node), g, b, old.waits c)
 
   -- an end that is delivered waited for the caller
   pub delivers_waited : delivers node (Called caller reply call) ≡ true → (old.place ≡ caller) × (in_transit marks node ≡ true)
   delivers_waited d =
       let idle : sends node mark ≡ false = false_if (sends node mark) (λ s. both_ways (delivers node mark) d (sends_alone node mark s).0) in
-      let w = waiting caller in
-      let taken : one_if (caller == caller && delivers node mark) ≡ 1 =
-      all_of (caller == caller) (delivers node mark) d ∙ ap one_if (eq-eqb caller caller refl) in
+      let taken = all_of (caller == caller) (delivers node mark) d ∙ ap one_if (eq-eqb caller caller refl) in
       let none : one_if (taker call == caller && sends node mark) ≡ 0 = none_of (taker call == caller) (sends node mark) idle in
-      let some : 0 < one_if (old.place == caller && in_transit marks node) = omega (arith, w, taken, none) in
+      let some : 0 < one_if (old.place == caller && in_transit marks node) = omega (arith, waiting caller, taken, none) in
       let t = both_hold (old.place == caller) (in_transit marks node) some in
       (eqb-true old.place caller t.0, t.1)
 
@@ -153,20 +147,15 @@ module _ (limits : Bound) (marks : Timeline) (caller : ℕ) (reply : Reply) (cal
         record {
           place = taker call;
           waits = λ c.
-              let w = waiting c in
-              let rest : one_if (old.place == c && in_transit marks node) ≡ 0 =
-              none_of (old.place == c) (in_transit marks node) f.resting in
-              let none : one_if (caller == c && delivers node mark) ≡ 0 =
-              none_of (caller == c) (delivers node mark) (sends_alone node mark s).0 in
+              let none = none_of (caller == c) (delivers node mark) (sends_alone node mark s).0 in
               let here : times (is_end_of node) (parcels (mark ∷ marks) c) ≡ one_if (taker call == c && sends node mark) =
-              omega (arith, w, rest, none) in
+              omega (arith, waiting c, none_of (old.place == c) (in_transit marks node) f.resting, none) in
               here ∙ ap (λ (b : Bool). one_if (taker call == c && b)) (s
               ∙ sym (ap (λ (b : Bool). b || (in_transit marks node && not (delivers node mark))) s));
           joined = λ h. still_joined marks mark (taker call) (taker_joined node limits marks caller reply call answer s);
         }
     | inr s ↦
-        let t_is : (sends node mark || (in_transit marks node && not (delivers node mark))) ≡ (in_transit marks node && not
-        (delivers node mark)) = ap (λ (b : Bool). b || (in_transit marks node && not (delivers node mark))) s in
+        let t_is = ap (λ (b : Bool). b || (in_transit marks node && not (delivers node mark))) s in
         record {
           place = old.place;
           waits = λ c. stays c s ∙ ap (λ (b : Bool). one_if (old.place == c && b)) (sym t_is);
@@ -183,20 +172,15 @@ module _ (limits : Bound) (marks : Timeline) (caller : ℕ) (reply : Reply) (cal
           let none : one_if (taker call == c && sends node mark) ≡ 0 = none_of (taker call == c) (sends node mark) s in
           elim (either_way (delivers node mark)) [
             | inr d ↦
-                let idle : one_if (caller == c && delivers node mark) ≡ 0 = none_of (caller == c) (delivers node mark) d in
-                let kept : (in_transit marks node && not (delivers node mark)) ≡ in_transit marks node =
-                ap (λ (b : Bool). in_transit marks node && not b) d ∙ and-true (in_transit marks node) in
+                let kept = ap (λ (b : Bool). in_transit marks node && not b) d ∙ and-true (in_transit marks node) in
                 let here : times (is_end_of node) (parcels (mark ∷ marks) c) ≡ one_if (old.place == c && in_transit marks node) =
-                omega (arith, w, none, idle) in
+                omega (arith, w, none, none_of (caller == c) (delivers node mark) d) in
                 here ∙ ap (λ (b : Bool). one_if (old.place == c && b)) (sym kept)
             | inl d ↦
                 let p = delivers_waited d in
-                let was : one_if (old.place == c && in_transit marks node) ≡ one_if (caller == c) =
-                all_of (old.place == c) (in_transit marks node) p.1 ∙ ap (λ (k : ℕ). one_if (k == c)) p.0 in
-                let taken : one_if (caller == c && delivers node mark) ≡ one_if (caller == c) =
-                all_of (caller == c) (delivers node mark) d in
-                let over : (in_transit marks node && not (delivers node mark)) ≡ false =
-                ap (λ (b : Bool). in_transit marks node && not b) d ∙ and-false (in_transit marks node) in
+                let was = all_of (old.place == c) (in_transit marks node) p.1 ∙ ap (λ (k : ℕ). one_if (k == c)) p.0 in
+                let taken = all_of (caller == c) (delivers node mark) d in
+                let over = ap (λ (b : Bool). in_transit marks node && not b) d ∙ and-false (in_transit marks node) in
                 let here : times (is_end_of node) (parcels (mark ∷ marks) c) ≡ 0 = omega (arith, w, none, was, taken) in
                 here ∙ sym (none_of (old.place == c) (in_transit marks node && not (delivers node mark)) over)
           ]

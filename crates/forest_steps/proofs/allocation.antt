@@ -1,4 +1,3 @@
 -- Attached units that become ready and are allocated in their places.
 pub mod Giving
 pub mod Sums
-pub mod RootUnit

@@ -1,3 +1,2 @@
 -- A change to a collection, and how it is put back.
 pub mod Dropped
-pub mod FirstAllocated

@@ -1,4 +1,3 @@
 -- The pages of buffers.
 pub mod Placings
 pub mod Pools
-pub mod Returned

@@ -1,4 +1,2 @@
 -- Lists and tests, whatever they are of.
-pub mod ByKey
 pub mod Ranges
-pub mod Removed

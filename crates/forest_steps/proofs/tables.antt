@@ -1,4 +1,3 @@
 -- Nodes in the table: what lies above them, and those that are written, hung on or taken out.
 pub mod OfRow
-pub mod Rows
 pub mod Upward

@@ -1,9 +1,6 @@
 -- What is forgotten.
 pub mod EntryAt
-pub mod Forgotten
-pub mod KeyMoves
 pub mod Noted
 pub mod OnlyNoted
 pub mod Places
 pub mod Thinning
-pub mod Tidying

@@ -1,9 +1,7 @@
 -- What a birth makes of the table, the entries and the counts.
-pub mod Bearing
 pub mod Calmness
 pub mod Entries
 pub mod Forest
-pub mod Inserted
 pub mod Members
 pub mod Newborn
 pub mod NothingForced

@@ -1,6 +1,5 @@
 -- The entries of collections, and what is read of them.
 pub mod Counted
-pub mod Dropping
 pub mod Entries
 pub mod Putting
 pub mod Showing

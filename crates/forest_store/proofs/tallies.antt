@@ -3,7 +3,6 @@ pub mod Amounts
 pub mod AtOnce
 pub mod Holding
 pub mod CountedAbove
-pub mod InTurn
 pub mod Counting
 pub mod Reserved
 pub mod Slots

@@ -137,8 +137,7 @@ module _ (pool : ℕ) (a b : Timeline) (collection : ℕ) (s : SameIn pool a b c
   ends_same node here =
       let x = born_in node here in
       let e : end_state b node ≡ end_state a node = s.ends node here in
-      let told : open_end b x.0 ≡ record (open_end a x.0) { holder = holder b node; in_transit = in_transit b node } =
-      open_same node x.0 x.2 x.3 (member_at x.0 x.4) (subst (λ (k : NodeKey). end_state b k ≡ end_state a k) (sym x.2) e) in
+      let told = open_same node x.0 x.2 x.3 (member_at x.0 x.4) (subst (λ (k : NodeKey). end_state b k ≡ end_state a k) (sym x.2) e) in
       let found : birth_of b node ≡ Some x.0 = ap (λ (f : EndState). f.birth) e ∙ x.1 in
       (λ i. cond (e i).spent None (option_map (open_end b) (found i)))
       ∙ (from (spent a node) (open_end b x.0) (open_end a x.0) told

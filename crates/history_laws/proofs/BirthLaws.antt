@@ -49,8 +49,7 @@ pub has_no_fault : (marks : Timeline) (call : Call) (key : NodeKey) → HasEnd m
 has_no_fault marks call key e is h =
     let h' : option_map (λ (f : Fault). Reply.PeerClosed f.cause f.origin) (fault marks e.birth.node) ≡ None =
     rw (is, e.unspent, e.is) at h in
-    let none : fault marks e.birth.node ≡ None = none_of (fault marks e.birth.node) h' in
-    subst (λ (k : NodeKey). fault marks k ≡ None) (birth_is marks key e.birth e.is).1 none
+    subst (λ (k : NodeKey). fault marks k ≡ None) (birth_is marks key e.birth e.is).1 (none_of (fault marks e.birth.node) h')
   where
     -- since a fault would be answered
     none_of : (o : Option Fault) → option_map (λ (f : Fault). Reply.PeerClosed f.cause f.origin) o ≡ None → o ≡ None
@@ -115,14 +114,12 @@ pub comes : (limits : Bound) (before : Timeline) (client event : ℕ) (reply : R
     Comes before client reply call b
 comes limits before client event (Reply.Token key collection) Call.OpenRoot b answer h =
     let t = took_effect_all limits (readings before) client key Call.OpenRoot (Reply.Token key collection) refl refl answer.told in
-    let same : Some (record { node = key; parent = None; attached = false; collection = collection; event = event; client = client }) ≡ Some
-    b = h in
+    let same = h in
     let is : record { node = key; parent = None; attached = false; collection = collection; event = event; client = client } ≡ b = cc in
-    let told : Reply.Token key collection ≡ Reply.Token key (events before + 1) = t.answered in
     let now : collection ≡ events before + 1 = cc in
     subst (Comes before client (Reply.Token key collection) Call.OpenRoot) is
     (record {
-      told = refl;
+      t.answered = refl;
       fresh = fresh_key before key answer.is_new;
       from = inl (refl, now);
       bears = rw (same_key-refl key) refl;
@@ -131,8 +128,7 @@ comes limits before client event (Reply.Token key collection) Call.OpenRoot b an
 comes limits before client event (Reply.Token key collection) (Call.Duplicate parent) b answer h =
     let t = took_effect_all limits (readings before) client key (Call.Duplicate parent) (Reply.Token key collection) refl refl
     answer.told in
-    let same : Some (record { node = key; parent = Some parent; attached = false; collection = collection; event = event; client = client })
-    ≡ Some b = h in
+    let same = h in
     let is : record { node = key; parent = Some parent; attached = false; collection = collection; event = event; client = client } ≡ b =
     cc in
     subst (Comes before client (Reply.Token key collection) (Call.Duplicate parent)) is
@@ -146,8 +142,7 @@ comes limits before client event (Reply.Token key collection) (Call.Duplicate pa
 comes limits before client event (Reply.Token key collection) (Call.AttachToken parent) b answer h =
     let t = took_effect_all limits (readings before) client key (Call.AttachToken parent) (Reply.Token key collection) refl refl
     answer.told in
-    let same : Some (record { node = key; parent = Some parent; attached = true; collection = collection; event = event; client = client })
-    ≡ Some b = h in
+    let same = h in
     let is : record { node = key; parent = Some parent; attached = true; collection = collection; event = event; client = client } ≡ b =
     cc in
     subst (Comes before client (Reply.Token key collection) (Call.AttachToken parent)) is

@@ -54,10 +54,8 @@ scaled_bits : (p : BufferName → Bool) (collection a n : ℕ) →
 scaled_bits p collection a zero = grind arith
 scaled_bits p collection a (suc n) =
     let name : ℕ → BufferName = λ i. record { collection = collection; index = i } in
-    let rest : set_of (filter p (map name (range_with_len (a + 1) n))) ≡ 2 ^ (a + 1) * bits_from (λ i. p (name i)) (a + 1) n =
-    scaled_bits p collection (a + 1) n in
     set_cons (p (name a)) (name a) (filter p (map name (range_with_len (a + 1) n)))
-    ∙ (ap (λ s. one (p (name a)) * 2 ^ a + s) rest
+    ∙ (ap (λ s. one (p (name a)) * 2 ^ a + s) (scaled_bits p collection (a + 1) n)
     ∙ scale (2 ^ a) (one (p (name a))) (2 ^ (a + 1)) (bits_from (λ i. p (name i)) (a + 1) n) (twice a))
 
 -- half of it is the rest
@@ -75,8 +73,7 @@ bit_of : (p : ℕ → Bool) (a n j : ℕ) → bit_at (bits_from p a n) j ≡ one
 bit_of p a zero j = let e : nat_lt j 0 ≡ false = none_below j in bit_at-zero j ∙ rw e refl
 bit_of p a (suc n) zero =
     let e : a ≡ a + 0 = omega arith in
-    let f : nat_lt 0 (suc n) ≡ true = first_below n in
-    bit_at_lowest (bits_from p a (suc n)) ∙ (rest_of (p a) (bits_from p (a + 1) n) ∙ (ap (λ k. one (p k)) e ∙ rw f refl))
+    bit_at_lowest (bits_from p a (suc n)) ∙ (rest_of (p a) (bits_from p (a + 1) n) ∙ (ap (λ k. one (p k)) e ∙ rw (first_below n) refl))
 bit_of p a (suc n) (suc j) =
     let e : (a + 1) + j ≡ a + suc j = omega arith in
     bit_at-suc (bits_from p a (suc n)) j
@@ -104,8 +101,7 @@ one_is false = refl
 index_times : (a n j : ℕ) → times (λ i. i == a + j) (range_with_len a n) ≡ one (nat_lt j n)
 index_times a zero j = rw (none_below j) refl
 index_times a (suc n) zero =
-    let here : (a == a + 0) ≡ true = eq-eqb a (a + 0) (omega arith) in
-    rw (here, first_below n) (ap (λ k. k + 1) (later (a + 1) n (omega arith)))
+    rw (eq-eqb a (a + 0) (omega arith), first_below n) (ap (λ k. k + 1) (later (a + 1) n (omega arith)))
   where
     -- by induction on how many numbers are left: each of them is greater than a
     later : (b m : ℕ) → a < b → times (λ i. i == a + 0) (range_with_len b m) ≡ 0

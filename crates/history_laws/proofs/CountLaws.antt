@@ -113,8 +113,7 @@ module _ (buffer : BufferName) (strength : Strength) where
   first_parcel limits marks client caller (Reply.Collected key kind collection) Call.Collect answer e =
       let t = took_effect_all limits (readings marks) caller (record { slot = 0; generation = 0 }) Call.Collect
       (Reply.Collected key kind collection) refl refl answer.told in
-      let is : caller ≡ client = eqb-true caller client e in
-      from (parcels marks client) refl (t.answered ∙ ap (λ c. collected (readings marks) (parcels marks c)) is)
+      from (parcels marks client) refl (t.answered ∙ ap (λ c. collected (readings marks) (parcels marks c)) (eqb-true caller client e))
     where
       from : (ps : List Parcel) → parcels marks client ≡ ps → Reply.Collected key kind collection ≡ collected (readings marks) ps →
           IsFirstParcel marks client (Called caller (Reply.Collected key kind collection) Call.Collect)
@@ -124,8 +123,7 @@ module _ (buffer : BufferName) (strength : Strength) where
   first_parcel limits marks client caller (Reply.CollectedHandle name given) Call.Collect answer e =
       let t = took_effect_all limits (readings marks) caller (record { slot = 0; generation = 0 }) Call.Collect
       (Reply.CollectedHandle name given) refl refl answer.told in
-      let is : caller ≡ client = eqb-true caller client e in
-      from (parcels marks client) refl (t.answered ∙ ap (λ c. collected (readings marks) (parcels marks c)) is)
+      from (parcels marks client) refl (t.answered ∙ ap (λ c. collected (readings marks) (parcels marks c)) (eqb-true caller client e))
     where
       no_end : (k : _) (o : Option OpenEnd) → Reply.CollectedHandle name given ≡ option_map_or (λ (x : OpenEnd).
           Reply.Collected k x.kind x.collection) o Reply.Empty → ⊥
@@ -147,13 +145,9 @@ module _ (buffer : BufferName) (strength : Strength) where
       IsAnswer limits (readings marks) caller call reply → IsDrawn marks → IsSent marks → IsSent (Called caller reply call ∷ marks)
   sent-called limits marks caller reply call answer drawn sent client =
       let mark : Mark = Called caller reply call in
-      let so_far : times (sends buffer strength client) marks ≡ times (lands (λ c. c == client) buffer strength) marks + waiting marks
-      client = sent client in
-      let s : times (sends buffer strength client) (mark ∷ marks) ≡ times (sends buffer strength client) marks + one
-      (sends buffer strength client mark) = times-cons (sends buffer strength client) mark marks in
-      let l : times (lands (λ c. c == client) buffer strength) (mark ∷ marks) ≡ times (lands (λ c. c == client) buffer strength) marks + one
-      (lands (λ c. c == client) buffer strength mark) =
-      times-cons (lands (λ c. c == client) buffer strength) mark marks in
+      let so_far = sent client in
+      let s = times-cons (sends buffer strength client) mark marks in
+      let l = times-cons (lands (λ c. c == client) buffer strength) mark marks in
       elim (either_way (collects client mark)) [
         | inl e ↦
             let none : given_at client mark ≡ None = collects_gives client mark e in
@@ -163,16 +157,14 @@ module _ (buffer : BufferName) (strength : Strength) where
             c == client) buffer strength mark) =
             ap (times (is_handle_of buffer strength)) f.waited ∙ (times-cons (is_handle_of buffer strength) f.parcel f.rest
             ∙ ap (λ b. times (is_handle_of buffer strength) f.rest + one b) f.got_it) in
-            let now : waiting (mark ∷ marks) client ≡ times (is_handle_of buffer strength) f.rest =
-            ap (times (is_handle_of buffer strength)) (parcels-collected marks mark client e none ∙ ap (drop 1) f.waited) in
+            let now = ap (times (is_handle_of buffer strength)) (parcels-collected marks mark client e none ∙ ap (drop 1) f.waited) in
             omega (arith, so_far, s, l, quiet, was, now)
         | inr e ↦
             let idle : one (lands (λ c. c == client) buffer strength mark) ≡ 0 = rw (idle_lands client mark e) refl in
             elim (none_or_some (given_at client mark)) [
               | inl none ↦
                   let quiet : one (sends buffer strength client mark) ≡ 0 = rw none refl in
-                  let now : waiting (mark ∷ marks) client ≡ waiting marks client =
-                  ap (times (is_handle_of buffer strength)) (parcels-kept marks mark client e none) in
+                  let now = ap (times (is_handle_of buffer strength)) (parcels-kept marks mark client e none) in
                   omega (arith, so_far, s, l, idle, quiet, now)
               | inr given ↦
                   let loud : one (sends buffer strength client mark) ≡ one (is_handle_of buffer strength given.0) = rw given.1 refl in
@@ -461,8 +453,7 @@ add_up marks c buffer strength =
     let s : times (lifts anyone buffer strength) marks ≡ sum_by sent_to cs =
     times_split (lifts anyone buffer strength) (λ k. sends buffer strength k) receiver (sends-who buffer strength) cs once marks (λ m on h.
     c.joined.receivers m on (lifts_gives buffer strength m h)) in
-    let sent : sum_by sent_to cs ≡ sum_by landed_by cs + sum_by waits_for cs =
-    sum_by-same sent_to (λ k. landed_by k + waits_for k) cs (c.sent buffer strength) ∙ sum_by-add landed_by waits_for cs in
+    let sent = sum_by-same sent_to (λ k. landed_by k + waits_for k) cs (c.sent buffer strength) ∙ sum_by-add landed_by waits_for cs in
     let each : (k : ℕ) → has k + (dropped_by k + lifted_by k) ≡ opened_by k + landed_by k =
     λ k. let paid : dropped_by k + lifted_by k ≤ opened_by k + landed_by k = c.paid k buffer strength in omega (arith, paid) in
     let sums : sum_by has cs + (sum_by dropped_by cs + sum_by lifted_by cs) ≡ sum_by opened_by cs + sum_by landed_by cs =
@@ -491,14 +482,12 @@ moving_is marks c buffer strength = let a : AddUp marks buffer strength = add_up
 pub total_is : (marks : Timeline) → IsCounted marks → (buffer : BufferName) (strength : Strength) →
     open_total marks buffer strength ≡ clients_have marks buffer strength + moving marks buffer strength
 total_is marks c buffer strength =
-    let a : AddUp marks buffer strength = add_up marks c buffer strength in
-    omega (arith, a.opened, moving_is marks c buffer strength)
+    omega (arith, (add_up marks c buffer strength).opened, moving_is marks c buffer strength)
 
 -- a client has no more handles open than there are
 pub client-le-total : (marks : Timeline) → IsCounted marks → (client : ℕ) (buffer : BufferName) (strength : Strength) →
     has_joined marks client ≡ true → open_of marks client buffer strength ≤ open_total marks buffer strength
 client-le-total marks c client buffer strength joined =
     let a = In-list_any (λ k. k == client) (clients marks) joined in
-    let is : a.0 ≡ client = eqb-true a.0 client a.2 in
-    let on : In client (clients marks) = subst (λ k. In k (clients marks)) is a.1 in
+    let on : In client (clients marks) = subst (λ k. In k (clients marks)) (eqb-true a.0 client a.2) a.1 in
     omega (arith, In-le-sum_by (λ k. open_of marks k buffer strength) (clients marks) client on, total_is marks c buffer strength)

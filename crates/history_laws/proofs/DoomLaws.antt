@@ -95,8 +95,7 @@ taken_none limits before client key buffer strength taken collection set h answe
           let y' : opens anyone buffer taken (Called client (Reply.Taken collection taken set) (Call.Take key)) ≡ true =
           subst (λ (k : Strength). opens anyone buffer k (Called client (Reply.Taken collection taken set) (Call.Take key)) ≡ true) (sym s)
           y in
-          let t : (list_any (λ name. same_buffer name buffer) (buffer_names before collection) && not (doomed before buffer)) ≡ true =
-          sym (take_opens limits before client collection taken set key answer buffer) ∙ y' in
+          let t = sym (take_opens limits before client collection taken set key answer buffer) ∙ y' in
           both_ways (doomed before buffer) h (not-true (doomed before buffer) (and_right (list_any (λ name.
           same_buffer name buffer) (buffer_names before collection)) _ t))
     ]
@@ -110,12 +109,10 @@ dup_none pool limits before client grown buffer strength dup name none answer =
     elim (either_way (same_buffer name buffer && same_strength dup strength)) [
       | inr n ↦ n
       | inl y ↦
-          let b_is : name ≡ buffer = same_buffer-true name buffer (and_left _ _ y) in
           let d_is : dup ≡ strength = same_strength-true dup strength (and_right (same_buffer name buffer) _ y) in
-          let was : 0 < open_of before client name dup = dup_was_open limits before client name dup answer in
           let was' : 0 < open_of before client buffer strength =
           subst (λ (s : Strength). 0 < open_of before client buffer s) d_is (subst (λ (n : BufferName). 0 < open_of before client n dup)
-          b_is was) in
+          (same_buffer-true name buffer (and_left _ _ y)) (dup_was_open limits before client name dup answer)) in
           let le : open_of before client buffer strength ≤ open_total before buffer strength =
           client-le-total before (counted pool limits before grown) client buffer strength (caller_joined limits before client Reply.Done
           (Call.DupHandle name dup) answer refl) in
@@ -132,8 +129,7 @@ pub record IsDoomed (marks : Timeline) (buffer : BufferName) : Type 0 where
 -- a doomed buffer is of an allocated collection, with neither a strong handle nor a strong live node
 pub doomed_parts : (marks : Timeline) (buffer : BufferName) → doomed marks buffer ≡ true → IsDoomed marks buffer
 doomed_parts marks buffer h =
-    let rest : (open_total marks buffer Strength.Strong == 0 && not (some_strong_live (members marks buffer.collection))) ≡ true =
-    and_right (is_some (buffers_of marks buffer.collection)) _ h in
+    let rest = and_right (is_some (buffers_of marks buffer.collection)) _ h in
     record {
       given = and_left (is_some (buffers_of marks buffer.collection)) _ h;
       none_open = eqb-true _ _ (and_left (open_total marks buffer Strength.Strong == 0) _ rest);
@@ -172,10 +168,9 @@ module _ (pool : ℕ) (limits : Bound) (before : Timeline) (client : ℕ) (reply
                   absurd (omega arith)
               | inr r ↦
                   let p : Birth = r.0 in
-                  let up : born_to s.birth.node (Called client reply call) ≡ Some p.node = k.bears ∙ r.2 in
                   let w : option_map_or (weak before) (born_to s.birth.node (Called client reply call)) false ≡ false =
                   (or_parts _ _ (or_parts (sets_weak s.birth.node (Called client reply call)) _ s.strong).1).0 in
-                  let strong : weak before p.node ≡ false = rw up at w in
+                  let strong : weak before p.node ≡ false = rw (k.bears ∙ r.2) at w in
                   let here : gone before p.node ≡ false = elim (either_way (gone before p.node)) [
                     | inl g ↦ both_ways (spent before p.node) (old.ended_spent p.node g r.5) r.4
                     | inr n ↦ n
@@ -235,8 +230,7 @@ module _ (pool : ℕ) (limits : Bound) (before : Timeline) (client : ℕ) (reply
           | inr n ↦ n
           | inl y ↦
               let early : buffer.collection ≤ events before = buffers_early pool limits before grown buffer.collection d.given in
-              let was : StrongLive before buffer.collection =
-              strong_before buffer.collection early (strong_live after_it buffer.collection y) in
+              let was = strong_before buffer.collection early (strong_live after_it buffer.collection y) in
               both_ways (some_strong_live (members before buffer.collection)) (live_strong before buffer.collection was) d.none_strong
         ];
       }

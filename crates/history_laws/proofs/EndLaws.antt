@@ -2,13 +2,13 @@
 use Rattle.history_laws.proofs.Common.{Allocated, AreAnswers, Birth, Bool, Bound, BufferName, Call, Called, Cause, Ended, Entry, Fault}
 use Rattle.history_laws.proofs.Common.{HeldBuffer, In, In-list_any, In-reverse, IsAnswer, IsLegal, List, Loss, Mark, Member, NodeKey}
 use Rattle.history_laws.proofs.Common.{None, OpenEnd, Option, Readings, Reply, Some, Strength, Timeline, [], after, ancestors, and_left}
-use Rattle.history_laws.proofs.Common.{answers_first, ap, birth_of, births, both_ways, buffers_of, closing, collection_of, cond}
-use Rattle.history_laws.proofs.Common.{cons_option, effect, either_way, false, false_if, fault, filter-none, first_some, fold, gone, held}
-use Rattle.history_laws.proofs.Common.{home, inl, inr, is_event, is_live, is_release, is_some, key_of, limits_met, live, live_nodes, map}
-use Rattle.history_laws.proofs.Common.{map-Some, members, misuse, misuse_of, no_handle, not, open_end, open_total, option_and_then}
-use Rattle.history_laws.proofs.Common.{option_map, or_left, or_right, own_loss, peer_closed, placed, reaches, readings, refl, released}
-use Rattle.history_laws.proofs.Common.{reverse, same_key, same_key-true, some_strong_live, spends, spent, subst, sym, timeline, top_on}
-use Rattle.history_laws.proofs.Common.{true, unwrap_or, when, ℕ, ◌&&◌, ◌==◌, ◌||◌, ◌∙◌, ◌∷◌, ◌≡◌, ◌⊎◌}
+use Rattle.history_laws.proofs.Common.{answers_first, ap, birth_of, births, both_ways, closing, collection_of, cond, cons_option, effect}
+use Rattle.history_laws.proofs.Common.{either_way, false, false_if, fault, filter-none, first_some, fold, gone, held, home, inl, inr}
+use Rattle.history_laws.proofs.Common.{is_event, is_live, is_release, is_some, key_of, limits_met, live, live_nodes, map, map-Some}
+use Rattle.history_laws.proofs.Common.{members, misuse, misuse_of, no_handle, not, open_end, open_total, option_and_then, option_map}
+use Rattle.history_laws.proofs.Common.{or_left, or_right, own_loss, peer_closed, placed, reaches, readings, refl, released, reverse}
+use Rattle.history_laws.proofs.Common.{same_key, same_key-true, some_strong_live, spends, spent, subst, sym, timeline, top_on, true}
+use Rattle.history_laws.proofs.Common.{unwrap_or, when, ℕ, ◌&&◌, ◌==◌, ◌||◌, ◌∙◌, ◌∷◌, ◌≡◌, ◌⊎◌}
 use Rattle.std.proofs.lemmas.Bool.{and_right}
 use Rattle.history_laws.proofs.GoneLaws.{fault_gone, gone_stays}
 use Rattle.history_laws.proofs.KeptLaws.{kept-rest}
@@ -252,19 +252,16 @@ module _ (pool : ℕ) (limits : Bound) (history : List Entry) (legal : IsLegal p
   none_strong collection = false_if (some_strong_live (members now collection)) (λ h.
       (let t = In-list_any (λ (m : Member). is_live m && not m.weak) (members now collection) h in
       let r = member_birth now collection t.0 t.1 in
-      let here : is_live t.0 ≡ true = and_left (is_live t.0) (not t.0.weak) t.2 in
-      both_ways (is_live t.0) here (ap is_live r.2 ∙ none_live r.0 r.1)))
+      both_ways (is_live t.0) (and_left (is_live t.0) (not t.0.weak) t.2) (ap is_live r.2 ∙ none_live r.0 r.1)))
 
   -- each placed buffer is home
   all_home : ((buffer : BufferName) (strength : Strength) → open_total now buffer strength ≡ 0) → (h : HeldBuffer) → In h (placed pool now)
       →
       home now h.buffer ≡ true
   all_home none h on =
-      let given : is_some (buffers_of now h.buffer.collection) ≡ true = placed_given pool now h on in
-      let strong : open_total now h.buffer Strength.Strong ≡ 0 = none h.buffer Strength.Strong in
       let weak : open_total now h.buffer Strength.Weak ≡ 0 = none h.buffer Strength.Weak in
       let not_kept : some_strong_live (members now h.buffer.collection) ≡ false = none_strong h.buffer.collection in
-      λ i. (given i && (strong i == 0 && not (not_kept i))) && weak i == 0
+      λ i. ((placed_given pool now h on) i && ((none h.buffer Strength.Strong) i == 0 && not (not_kept i))) && weak i == 0
 
   -- so none is held
   pub none_held : ((buffer : BufferName) (strength : Strength) → open_total now buffer strength ≡ 0) → held pool now ≡ []

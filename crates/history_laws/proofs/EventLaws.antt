@@ -14,7 +14,7 @@ use Rattle.sm_names.specs.Losses.{is_dispensable}
 use Rattle.sm_names.specs.Members.{constraints_at, constraints}
 use Rattle.sm_names.specs.Timelines.{buffer_of, opened_by}
 use Rattle.history_laws.proofs.CountLaws.{anyone}
-use Rattle.history_laws.proofs.TakeLaws.{Took, took}
+use Rattle.history_laws.proofs.TakeLaws.{took}
 use Rattle.sm_names.specs.Ends.{binds}
 use Rattle.sm_names.specs.Reading.{is_taking, is_tracking}
 use Rattle.sm_names.specs.Weakness.{covered, covers_children, sets_weak_ok, weak_ok}
@@ -261,28 +261,24 @@ module _ (pool : ℕ) (limits : Bound) (before : Timeline) (client theirs : ℕ)
       let heads : head (births called) n ≡ head (births before) n =
       head_old new (births before) n (In-was_born (births before) b on) (λ c e.
       (comes limits before client (events before + 1) reply call c answer e).fresh) in
-      let allocates : allocated called n ≡ allocated before n = ap (λ (k : NodeKey). list_any (is_allocation k) before) heads in
       let free : (test : Bool) → (test ≡ true → Names call reply n) →
       test ≡ false = λ test names. untouched b on h test (λ t. (names t).0) in
-      let releases : released called n ≡ released before n =
-      ap (λ (r : Bool). r || released before n) (free (is_release n mark) (releases_it n client reply call)) in
+      let releases = ap (λ (r : Bool). r || released before n) (free (is_release n mark) (releases_it n client reply call)) in
       let dispenses : list_any (is_dispensable n) called ≡ list_any (is_dispensable n) before =
       ap (λ (r : Bool). r || list_any (is_dispensable n) before) (free (is_dispensable n mark) (dispenses_it n client reply call)) in
       let born : born_to n mark ≡ None = not_born_now b on (birth_at 0 mark) refl in
       let sets : sets_weak n mark ≡ false = free (sets_weak n mark) (weakens_it n client reply call) in
       let weakens : weak called n ≡ weak before n =
       (λ i. sets i || (option_map_or (weak before) (born i) false || weak before n)) in
-      let constrained : constraints_at n mark ≡ None =
-      is_none_if (constraints_at n mark) (free (is_some (constraints_at n mark)) (constrains_it n client reply call)) in
-      let constrains : constraints called n ≡ constraints before n =
-      ap (λ (o : Option Demand). option_map_or Some o (constraints before n)) constrained in
+      let constrained = is_none_if (constraints_at n mark) (free (is_some (constraints_at n mark)) (constrains_it n client reply call)) in
+      let constrains = ap (λ (o : Option Demand). option_map_or Some o (constraints before n)) constrained in
       let lines : ancestors (births called) n ≡ ancestors (births before) n =
       ancestors_old new (births before) n (In-was_born (births before) b on) (λ c e.
       (comes limits before client (events before + 1) reply call c answer e).fresh) in
       λ i. record (member before b) {
         above = lines i;
         head = heads i;
-        allocated = allocates i;
+        allocated = (ap (λ (k : NodeKey). list_any (is_allocation k) before) heads) i;
         released = releases i;
         dispensable = dispenses i;
         weak = weakens i;
@@ -298,20 +294,17 @@ module _ (pool : ℕ) (limits : Bound) (before : Timeline) (client theirs : ℕ)
       let born : born_to n mark ≡ None = not_born_now b on (birth_at 0 mark) refl in
       let found : birth_of called n ≡ birth_of before n =
       find_birth (births called) b ord.sound (In_old new (births before) b on) ∙ sym (find_birth (births before) b old.sound on) in
-      let spends_none : spends n mark ≡ false = free (spends n mark) (spends_it n client reply call) in
-      let binds_none : binds n mark ≡ false = free (binds n mark) (binds_it n client reply call) in
       let sets : sets_weak n mark ≡ false = free (sets_weak n mark) (weakens_it n client reply call) in
       let allows : sets_weak_ok n mark ≡ false = free (sets_weak_ok n mark) (allows_it n client reply call) in
-      let takes_none : is_taking n mark ≡ false = free (is_taking n mark) (takes_it n client reply call) in
       let tracks : is_tracking n mark ≡ false = free (is_tracking n mark) (tracks_it n client reply call) in
       λ i. record {
         birth = found i;
-        spent = spends_none i || spent before n;
+        spent = (free (spends n mark) (spends_it n client reply call)) i || spent before n;
         fault = fault before n;
-        bound = binds_none i || list_any (binds n) before;
+        bound = (free (binds n mark) (binds_it n client reply call)) i || list_any (binds n) before;
         weak_ok = (sets i || list_any (sets_weak n) before) || ((allows i || list_any (sets_weak_ok n) before) || (option_map_or (λ parent.
             list_any (covers_children parent) before || covered before parent) (born i) false || covered before n));
-        took = takes_none i || list_any (is_taking n) before;
+        took = (free (is_taking n mark) (takes_it n client reply call)) i || list_any (is_taking n) before;
         node_trackers = cond (tracks i) (times (is_tracking n) before + 1) (times (is_tracking n) before);
       }
 
@@ -344,8 +337,7 @@ module _ (pool : ℕ) (limits : Bound) (before : Timeline) (client theirs : ℕ)
           collection_of (Called client reply call ∷ before) call reply ≡ Some b.collection) →
           opens anyone buffer strength (Called client reply call) ≡ false
       from (Reply.Taken collection taken set) (Call.Take key) answer other of_key =
-          let t : Took before collection taken set (Call.Take key) =
-          took limits before client collection taken set (Call.Take key) answer in
+          let t = took limits before client collection taken set (Call.Take key) answer in
           let e : (collection == buffer.collection) ≡ false =
           other collection (of_key t.birth.node t.birth (find_birth (births before) t.birth old.sound t.there) t.named_by
           ∙ ap Some (sym t.collection_is)) in
@@ -438,10 +430,8 @@ module _ (pool : ℕ) (limits : Bound) (before : Timeline) (client theirs : ℕ)
       elim (none_or_some (next_forced pool ours m)) [
         | inl e ↦ rw e (same_here pool m theirs)
         | inr some ↦
-            let step : SameIn pool m (some.0 ∷ m) theirs =
-            same_forced m ours some.0 (whole pool limits m g) other (forced_why pool ours m some.0 some.1) in
-            let rest : SameIn pool (some.0 ∷ m) (settled_within pool ours most (some.0 ∷ m)) theirs =
-            same_settled ours most (some.0 ∷ m) other (grows_forced pool limits [] ours m some.0 g some.1) in
+            let step = same_forced m ours some.0 (whole pool limits m g) other (forced_why pool ours m some.0 some.1) in
+            let rest = same_settled ours most (some.0 ∷ m) other (grows_forced pool limits [] ours m some.0 g some.1) in
             rw some.1 (same_on pool m (some.0 ∷ m) (settled_within pool ours most (some.0 ∷ m)) theirs step rest)
       ]
 
@@ -455,8 +445,7 @@ module _ (pool : ℕ) (limits : Bound) (before : Timeline) (client theirs : ℕ)
       let b : Birth = there.birth in
       let r = key_in before client reply call t.0 b ord there.is t.3 in
       let here : collection_in (births called) t.0 ≡ Some b.collection = ap (option_map (λ (b : Birth). b.collection)) r.0 in
-      let lost : SameIn pool called (Loss t.0 t.1 ∷ called) theirs =
-      same_loss called b.collection (whole pool limits called grown) (not_theirs b.collection r.1) t.0 t.1 here in
+      let lost = same_loss called b.collection (whole pool limits called grown) (not_theirs b.collection r.1) t.0 t.1 here in
       rw t.2 (same_on pool before called (Loss t.0 t.1 ∷ called) theirs same_called lost)
 
   -- an event changes no collection but its own

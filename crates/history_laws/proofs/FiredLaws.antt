@@ -1,14 +1,17 @@
--- If a call changes nothing that the conditions of trackers depend on, no tracker fires.
-use Rattle.history_laws.proofs.Common.{Bool, Call, Called, In, List, None, Option, Reply, Some, Timeline, Tracked, [], ap, arith, cond}
-use Rattle.history_laws.proofs.Common.{count_by, earlier_moments, either_way, eqb-true, events, false, filter, fired, fired_at, fires_at}
-use Rattle.history_laws.proofs.Common.{holds, inl, inr, is_event, is_none, last_match, list_any, map, moments, option_map, option_map_or}
-use Rattle.history_laws.proofs.Common.{refl, reverse, reverse-append, sym, tracked, true, unfired, world, ℕ, ◌&&◌, ◌++◌, ◌+◌, ◌==◌, ◌∙◌}
-use Rattle.history_laws.proofs.Common.{◌∷◌, ◌≡◌, ◌≤◌}
+-- If a call changes nothing that the conditions of trackers depend on, no tracker fires. Calls that change nothing but the number of
+-- events. A call that is refused changes nothing but the number of events.
+use Rattle.history_laws.proofs.Common.{Bool, Call, Called, In, List, None, Option, Refusal, Reply, Some, Timeline, Tracked, [], ap, arith}
+use Rattle.history_laws.proofs.Common.{cond, count_by, earlier_moments, either_way, eqb-true, events, false, false≢true, filter, fired}
+use Rattle.history_laws.proofs.Common.{fired_at, fires_at, holds, inl, inr, is_event, is_none, last_match, list_any, live_nodes, map}
+use Rattle.history_laws.proofs.Common.{moments, option_map, option_map_or, readings, refl, reverse, reverse-append, standing, sym}
+use Rattle.history_laws.proofs.Common.{tracked, true, unfired, world, ℕ, ◌&&◌, ◌++◌, ◌+◌, ◌==◌, ◌∙◌, ◌∷◌, ◌≡◌, ◌≤◌}
 use Rattle.std.proofs.lemmas.List.{append-nil}
 use Rattle.std.proofs.lemmas.List.Concat.{flat_map-append}
 use Rattle.std.specs.List.{flat_map}
 use Rattle.sm_names.specs.Trackers.{fired_in}
 use Rattle.history_laws.proofs.SumLaws.{times-cons}
+use Rattle.sm_names.specs.Changes.{is_quiet}
+use Rattle.sm_names.specs.Views.{held_by_page}
 
 -- ---- the last match
 
@@ -88,9 +91,7 @@ none_to_come marks =
     not_now t None e = refl
     not_now t (Some event) e = elim (either_way (event == events marks + 1)) [
       | inl same ↦
-          let is : event ≡ events marks + 1 = eqb-true event (events marks + 1) same in
-          let early : event ≤ events marks = fired_early marks t event e in
-          absurd (omega (arith, is, early))
+          absurd (omega (arith, eqb-true event (events marks + 1) same, fired_early marks t event e))
       | inr other ↦ other
     ]
 
@@ -133,3 +134,92 @@ module _ (marks : Timeline) (client : ℕ) (reply : Reply) (call : Call)
       ap (flat_map (λ moment. fired_in marks (events moment))) (reverse-append (now ∷ []) (moments marks))
       ∙ flat_map-append (λ moment. fired_in marks (events moment)) (reverse (moments marks)) (now ∷ []) in
       each ∙ (split ∙ (ap (λ l. fired marks ++ (l ++ [])) (none_to_come marks) ∙ append-nil (fired marks)))
+
+-- ---- calls that change nothing but the number of events
+
+-- what answers read, but for the trackers that have not fired
+read-quiet : (marks : Timeline) (client : ℕ) (reply : Reply) (call : Call) → is_quiet call reply ≡ true →
+    readings (Called client reply call ∷ marks) ≡ record (readings
+    marks) { events = events marks + 1; unfired = unfired (Called client reply call ∷ marks) }
+read-quiet marks client (Reply.Refused refusal) call h = refl
+read-quiet marks client (Reply.Misused misuse) call h = refl
+read-quiet marks client (Reply.Allocated count size) call h = refl
+read-quiet marks client Reply.Pending call h = refl
+read-quiet marks client Reply.Empty call h = refl
+read-quiet marks client Reply.Done (Call.Sync key) h = refl
+read-quiet marks client (Reply.PeerClosed cause origin) (Call.Release key) h = cc
+read-quiet marks client (Reply.PeerClosed cause origin) _ h = refl
+read-quiet marks client _ _ h = absurd (false≢true h)
+
+-- what trackers look at, and the trackers
+world-quiet : (marks : Timeline) (client : ℕ) (reply : Reply) (call : Call) → is_quiet call reply ≡ true →
+    (world (Called client reply call ∷ marks) ≡ world marks) × (tracked (Called client reply call ∷ marks) ≡ tracked marks)
+world-quiet marks client (Reply.Refused refusal) call h = (refl, refl)
+world-quiet marks client (Reply.Misused misuse) call h = (refl, refl)
+world-quiet marks client (Reply.Allocated count size) call h = (refl, refl)
+world-quiet marks client Reply.Pending call h = (refl, refl)
+world-quiet marks client Reply.Empty call h = (refl, refl)
+world-quiet marks client Reply.Done (Call.Sync key) h = (refl, refl)
+world-quiet marks client (Reply.PeerClosed cause origin) call h = (refl, refl)
+world-quiet marks client _ _ h = absurd (false≢true h)
+
+-- so all that answers read
+pub readings-quiet : (marks : Timeline) (client : ℕ) (reply : Reply) (call : Call) → is_quiet call reply ≡ true →
+    readings (Called client reply call ∷ marks) ≡ record (readings marks) { events = events marks + 1 }
+readings-quiet marks client reply call h =
+    let w = world-quiet marks client reply call h in
+    read-quiet marks client reply call h
+    ∙ ap (λ n. record (readings marks) { events = events marks + 1; unfired = n }) (unfired-same marks client reply call w.0 w.1)
+
+-- what the forced steps read
+pub standing-quiet : (pool : ℕ) (marks : Timeline) (client : ℕ) (reply : Reply) (call : Call) (collection : ℕ) →
+    is_quiet call reply ≡ true →
+    standing pool (Called client reply call ∷ marks) collection ≡ standing pool marks collection
+standing-quiet pool marks client (Reply.Refused refusal) call collection h = refl
+standing-quiet pool marks client (Reply.Misused misuse) call collection h = refl
+standing-quiet pool marks client (Reply.Allocated count size) call collection h = refl
+standing-quiet pool marks client Reply.Pending call collection h = refl
+standing-quiet pool marks client Reply.Empty call collection h = refl
+standing-quiet pool marks client Reply.Done (Call.Sync key) collection h = refl
+standing-quiet pool marks client (Reply.PeerClosed cause origin) call collection h = refl
+standing-quiet pool marks client _ _ collection h = absurd (false≢true h)
+
+-- what is seen of nodes, pages and trackers
+pub seen-quiet : (pool : ℕ) (marks : Timeline) (client : ℕ) (reply : Reply) (call : Call) → is_quiet call reply ≡ true →
+    (live_nodes (Called client reply call ∷ marks) ≡ live_nodes marks) ×
+    (held_by_page pool (Called client reply call ∷ marks) ≡ held_by_page pool marks)
+seen-quiet pool marks client (Reply.Refused refusal) call h = (refl, refl)
+seen-quiet pool marks client (Reply.Misused misuse) call h = (refl, refl)
+seen-quiet pool marks client (Reply.Allocated count size) call h = (refl, refl)
+seen-quiet pool marks client Reply.Pending call h = (refl, refl)
+seen-quiet pool marks client Reply.Empty call h = (refl, refl)
+seen-quiet pool marks client Reply.Done (Call.Sync key) h = (refl, refl)
+seen-quiet pool marks client (Reply.PeerClosed cause origin) (Call.Release key) h = cc
+seen-quiet pool marks client (Reply.PeerClosed cause origin) _ h = (refl, refl)
+seen-quiet pool marks client _ _ h = absurd (false≢true h)
+
+-- and which trackers fired
+pub fired-quiet : (marks : Timeline) (client : ℕ) (reply : Reply) (call : Call) → is_quiet call reply ≡ true →
+    fired (Called client reply call ∷ marks) ≡ fired marks
+fired-quiet marks client reply call h = let w = world-quiet marks client reply call h in fired-same marks client reply call w.0 w.1
+
+-- ---- a call that is refused changes nothing but the number of events
+
+-- what answers read, but for the trackers that have not fired
+read-Refused : (marks : Timeline) (client : ℕ) (refusal : Refusal) (call : Call) →
+    readings (Called client (Reply.Refused refusal) call ∷ marks) ≡
+    record (readings marks) { events = events marks + 1; unfired = unfired (Called client (Reply.Refused refusal) call ∷ marks) }
+read-Refused marks client refusal call = refl
+
+-- and with them
+pub readings-Refused : (marks : Timeline) (client : ℕ) (refusal : Refusal) (call : Call) →
+    readings (Called client (Reply.Refused refusal) call ∷ marks) ≡ record (readings marks) { events = events marks + 1 }
+readings-Refused marks client refusal call =
+    read-Refused marks client refusal call
+    ∙ ap (λ n. record (readings marks) { events = events marks + 1; unfired = n }) (unfired-same marks client (Reply.Refused refusal) call
+    refl refl)
+
+-- and which trackers fired
+pub fired-Refused : (marks : Timeline) (client : ℕ) (refusal : Refusal) (call : Call) →
+    fired (Called client (Reply.Refused refusal) call ∷ marks) ≡ fired marks
+fired-Refused marks client refusal call = fired-same marks client (Reply.Refused refusal) call refl refl

@@ -236,9 +236,8 @@ members-closed marks collection sound below m n on there free up =
     let q = member_birth marks collection n there in
     let parent : parent_of marks r.0.node ≡ r.0.parent = rw (find_birth (births marks) r.0 sound r.1) refl in
     let up' : r.0.parent ≡ Some q.0.node = ap (λ (x : Member). x.parent) (sym r.2) ∙ (up ∙ ap (λ (x : Member). Some x.key) q.2) in
-    let free' : gone marks r.0.node ≡ false = ap (λ (x : Member). x.gone) (sym r.2) ∙ free in
     ap (λ (x : Member). x.gone) q.2 ∙ (elim (either_way (gone marks q.0.node)) [
-      | inl e ↦ both_ways (gone marks r.0.node) (below r.0.node q.0.node (parent ∙ up') e) free'
+      | inl e ↦ both_ways (gone marks r.0.node) (below r.0.node q.0.node (parent ∙ up') e) (ap (λ (x : Member). x.gone) (sym r.2) ∙ free)
       | inr e ↦ e
     ])
 

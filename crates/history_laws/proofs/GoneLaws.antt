@@ -107,8 +107,7 @@ not_live marks node h = rw h (and-false (is_some (birth_of marks node)))
 pub live_born : (marks : Timeline) (node : NodeKey) → was_born (births marks) node ≡ true →
     live marks node ≡ (not (gone marks node) && not (released marks node))
 live_born marks node h =
-    let there : is_some (birth_of marks node) ≡ true = is_some-find (λ (b : Birth). same_key b.node node) (births marks) ∙ h in
-    rw there refl
+    rw (is_some-find (λ (b : Birth). same_key b.node node) (births marks) ∙ h) refl
 
 -- one birth tells of the node, if it was born
 born_once : (bs : List Birth) (node : NodeKey) → AreSound bs → times (λ (b : Birth). same_key b.node node) bs ≡ cond (was_born bs node) 1 0
@@ -117,9 +116,7 @@ born_once (b ∷ older) node sound =
     elim (either_way (same_key b.node node)) [
       | inl e ↦
           let none : was_born older node ≡ false = ap (was_born older) (sym (same_key-true b.node node e)) ∙ sound.0 in
-          let rest : times (λ (b : Birth). same_key b.node node) older ≡ 0 =
-          born_once older node sound.2 ∙ ap (λ (w : Bool). cond w 1 0) none in
-          rw e (ap (λ (n : ℕ). n + 1) rest)
+          rw e (ap (λ (n : ℕ). n + 1) (born_once older node sound.2 ∙ ap (λ (w : Bool). cond w 1 0) none))
       | inr e ↦ rw e (born_once older node sound.2)
     ]
 
@@ -141,8 +138,7 @@ listed_once marks node sound =
     -- a live node was born, and births are once for each node; one that is not live counts nowhere
     counted : (l : Bool) → live marks node ≡ l → times (λ (b : Birth). l && same_key b.node node) (births marks) ≡ cond l 1 0
     counted true e =
-        let there : is_some (birth_of marks node) ≡ true =
-        and_left (is_some (birth_of marks node)) (not (gone marks node) && not (released marks node)) e in
+        let there = and_left (is_some (birth_of marks node)) (not (gone marks node) && not (released marks node)) e in
         let born : was_born (births marks) node ≡ true = sym (is_some-find (λ (b : Birth). same_key b.node node) (births marks)) ∙ there in
         born_once (births marks) node sound ∙ ap (λ (w : Bool). cond w 1 0) born
     counted false e = times-none (births marks)
@@ -169,8 +165,7 @@ pub fired_stays : (pool : ℕ) (marks : Timeline) (entry : Entry) (t : Tracked) 
     fired_at (after pool marks entry) t ≡ Some event
 fired_stays pool marks entry t event h =
     let m : Timeline = after pool marks entry in
-    let same : earlier_moments m ≡ moments marks = earlier_after pool marks entry in
-    ap (λ (ms : List Timeline). option_map events (last_match (fires_at t) (m ∷ ms))) same
+    ap (λ (ms : List Timeline). option_map events (last_match (fires_at t) (m ∷ ms))) (earlier_after pool marks entry)
     ∙ kept_match (last_match (fires_at t) (moments marks)) (cond (fires_at t m) (Some m) None) event h
 
 -- and so after more events

@@ -91,8 +91,7 @@ module _ (pool : ℕ) (limits : Bound) (start : Timeline) where
       with_loss (Some mark) e =
           let t = own_loss_origin marks entry.1 entry.2 mark e in
           let there : HasEnd marks t.0 = not_refused_end limits marks entry.0 entry.1 entry.2 t.0 answer t.4 t.3 in
-          let born : was_born (births (Called entry.0 entry.2 entry.1 ∷ marks)) t.0 ≡ true =
-          still_born marks (Called entry.0 entry.2 entry.1) t.0 (birth_was_born marks t.0 there.birth there.is) in
+          let born = still_born marks (Called entry.0 entry.2 entry.1) t.0 (birth_was_born marks t.0 there.birth there.is) in
           rw t.2 (Loses (Called entry.0 entry.2 entry.1 ∷ marks) t.0 t.1 answered born)
 
   -- and an event, with all that it forces

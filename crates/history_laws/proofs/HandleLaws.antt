@@ -40,13 +40,10 @@ module _ (client : ℕ) (buffer : BufferName) (strength : Strength) where
       refused_if (open_of marks caller name dropped == 0) Refusal.NoSuchHandle ≡ None →
       (it caller && (same_buffer name buffer && same_strength dropped strength)) ≡ true → let_go marks < got marks
   had_one marks caller name dropped some same =
-      let who : caller ≡ client =
-      eqb-true caller client (and_left (it caller) (same_buffer name buffer && same_strength dropped strength) same) in
-      let rest : (same_buffer name buffer && same_strength dropped strength) ≡ true =
-      and_right (it caller) (same_buffer name buffer && same_strength dropped strength) same in
+      let who = eqb-true caller client (and_left (it caller) (same_buffer name buffer && same_strength dropped strength) same) in
+      let rest = and_right (it caller) (same_buffer name buffer && same_strength dropped strength) same in
       let what : name ≡ buffer = same_buffer-true name buffer (and_left (same_buffer name buffer) (same_strength dropped strength) rest) in
-      let how : dropped ≡ strength =
-      same_strength-true dropped strength (and_right (same_buffer name buffer) (same_strength dropped strength) rest) in
+      let how = same_strength-true dropped strength (and_right (same_buffer name buffer) (same_strength dropped strength) rest) in
       let there : 0 < open_of marks caller name dropped = some_open (open_of marks caller name dropped) some in
       let here : 0 < open_of marks client buffer strength = subst (λ (n : ℕ). 0 < n) (λ i. open_of marks (who i) (what i) (how i)) there in
       omega (arith, here)
@@ -82,15 +79,12 @@ module _ (client : ℕ) (buffer : BufferName) (strength : Strength) where
       let_go (Called entry.0 entry.2 entry.1 ∷ marks) ≤ got (Called entry.0 entry.2 entry.1 ∷ marks)
   paid-called limits marks entry answer paid =
       let mark : Mark = Called entry.0 entry.2 entry.1 in
-      let o : times (opens it buffer strength) marks ≤ times (opens it buffer strength) (mark ∷ marks) =
-      once_more (opens it buffer strength mark) (times (opens it buffer strength) marks) in
-      let l : times (lands it buffer strength) marks ≤ times (lands it buffer strength) (mark ∷ marks) =
-      once_more (lands it buffer strength mark) (times (lands it buffer strength) marks) in
+      let o = once_more (opens it buffer strength mark) (times (opens it buffer strength) marks) in
+      let l = once_more (lands it buffer strength mark) (times (lands it buffer strength) marks) in
       elim (either_way (drops it buffer strength mark)) [
         | inl e ↦ let r = drop_had_one limits marks entry.0 entry.2 entry.1 answer e in
-            let no : lifts it buffer strength mark ≡ false = r.0 in
             let less : let_go marks < got marks = r.1 in
-            rw (e, no) (omega arith)
+            rw (e, r.0) (omega arith)
         | inr e ↦ elim (either_way (lifts it buffer strength mark)) [
           | inl f ↦ let less : let_go marks < got marks =
               lift_had_one limits marks entry.0 entry.2 entry.1 answer f in rw (e, f) (omega arith)

@@ -1,26 +1,29 @@
--- What is held: buffers apart from one another, each of them allocated and not home.
+-- What is held: buffers apart from one another, each of them allocated and not home. Each held buffer has the pages that its collection's
+-- buffers take.
 use Rattle.history_laws.proofs.Common.{Allocated, AreApart, Birth, Bool, Bound, BufferName, Buffers, Called, Ended, Failure, HeldBuffer}
-use Rattle.history_laws.proofs.Common.{In, Interval, List, Loss, Mark, NodeKey, None, Option, Some, Timeline, [], allocated, and_both}
-use Rattle.history_laws.proofs.Common.{and_left, ap, are_in, arith, asked, at_pages, birth_at, birth_of, births, both_ways, buffer_names}
-use Rattle.history_laws.proofs.Common.{buffers_of, cond, cons_option, either_way, eqb-true, events, false, filter, first_some, head, held}
-use Rattle.history_laws.proofs.Common.{home, initial_failure, inl, inr, is_allocation, is_initial, is_none, is_some, laid_out, layout_at}
-use Rattle.history_laws.proofs.Common.{length, list_any, map, meets, members, names, nat_lt, none_if, not, not-true, option_map_or}
-use Rattle.history_laws.proofs.Common.{or_both, or_left, or_parts, or_right, pages_of, placed, places, range_with_len, refl, same_buffer}
-use Rattle.history_laws.proofs.Common.{same_buffer-true, same_key, same_key-refl, some_strong_live, standing, subst, sum_by, sum_by-cons}
-use Rattle.history_laws.proofs.Common.{sym, times, times-append, true, when, ℕ, ◌&&◌, ◌++◌, ◌+◌, ◌==◌, ◌∙◌, ◌∷◌, ◌≡◌, ◌≤◌, ◌⊎◌}
+use Rattle.history_laws.proofs.Common.{In, In-append, In-filter, In-map, Interval, List, Loss, Mark, NodeKey, None, Option, Some}
+use Rattle.history_laws.proofs.Common.{Timeline, [], allocated, and_both, and_left, ap, are_in, arith, asked, at_pages, birth_at}
+use Rattle.history_laws.proofs.Common.{birth_of, births, both_ways, buffer_names, buffers_of, cond, either_way, eq-eqb, eqb-true, events}
+use Rattle.history_laws.proofs.Common.{false, filter, first_some, head, held, home, initial_failure, inl, inr, is_allocation, is_initial}
+use Rattle.history_laws.proofs.Common.{is_none, is_some, laid_out, layout_at, length, list_all, list_any, map, meets, members, names}
+use Rattle.history_laws.proofs.Common.{nat_lt, none_if, not, not-true, option_map_or, or_both, or_left, or_parts, or_right, pages_of}
+use Rattle.history_laws.proofs.Common.{placed, places, range_with_len, refl, same_buffer, same_buffer-true, same_key, same_key-refl}
+use Rattle.history_laws.proofs.Common.{some_strong_live, standing, subst, sum_by, sum_by-cons, sym, times, times-append, true, when, ℕ}
+use Rattle.history_laws.proofs.Common.{◌&&◌, ◌++◌, ◌+◌, ◌==◌, ◌∙◌, ◌∷◌, ◌≡◌, ◌≤◌, ◌⊎◌}
 use Rattle.std.proofs.lemmas.List.{length-map, map-append}
 use Rattle.std.proofs.lemmas.List.FromFn.{length-range_with_len}
 use Rattle.sm_names.specs.Views.{free_pages}
 use Rattle.history_laws.proofs.BitLaws.{times_below}
 use Rattle.history_laws.proofs.DoomLaws.{buffers_early, home_on}
-use Rattle.history_laws.proofs.GrowthLaws.{Grows, Stays, Answers, Loses, Allocates, Ends}
+use Rattle.history_laws.proofs.GrowthLaws.{Allocates, Answers, Ends, Grows, Loses, Stays}
 use Rattle.sm_names.proofs.SamenessLaws.{and_right, not_none}
-use Rattle.history_laws.proofs.LifeLaws.{IsOrdered, ordered, In_new}
+use Rattle.history_laws.proofs.LifeLaws.{In_new, IsOrdered, ordered}
 use Rattle.history_laws.proofs.PageLaws.{ArePlaced, placed_apart, sum-le-pool}
-use Rattle.history_laws.proofs.SettledLaws.{In-was_born, find_birth, head_itself, Why, Initial, Logical, forced_why}
-use Rattle.history_laws.proofs.SumLaws.{one, any_one, times-filter}
+use Rattle.history_laws.proofs.SettledLaws.{In-was_born, Initial, Logical, Why, find_birth, forced_why, head_itself}
+use Rattle.history_laws.proofs.SumLaws.{any_one, one, times-filter}
 use Rattle.sm_names.specs.declared.rules.TheConstants.{MAX_BUFFERS}
-use Rattle.history_laws.proofs.BirthLaws.{birth_is, Comes, comes, head_old}
+use Rattle.history_laws.proofs.BirthLaws.{Comes, birth_is, comes, head_old}
+use Rattle.sm_names.proofs.ListLaws.{all_on}
 
 -- ---- a list that has some elements of another, in order
 
@@ -87,10 +90,8 @@ given_root pool limits _ (Answers before client reply call g answer) b on root h
         | inr r ↦ let x : None ≡ Some r.0.node = sym root ∙ r.2 in absurd (cc)
       ]
       | inr on ↦
-          let was : allocated before b.node ≡ true = given_root pool limits before g b on root h in
-          let heads : head (cons_option new (births before)) b.node ≡ head (births before) b.node =
-          head_old new (births before) b.node (In-was_born (births before) b on) (λ c e. (came c e).fresh) in
-          ap (λ (k : NodeKey). list_any (is_allocation k) before) heads ∙ was
+          let heads = head_old new (births before) b.node (In-was_born (births before) b on) (λ c e. (came c e).fresh) in
+          ap (λ (k : NodeKey). list_any (is_allocation k) before) heads ∙ (given_root pool limits before g b on root h)
     ]
   where
     -- the birth that this event brings, if it brings one
@@ -117,9 +118,7 @@ given_root pool limits _ (Allocates before c top g e) b on root h =
         let ord : IsOrdered before = ordered pool limits before g in
         let up : x.parent ≡ None = none_if x.parent (and_left (is_none x.parent) _ i) in
         let is : x ≡ b = ord.roots x b f.0 on up root (eqb-true x.collection b.collection (and_right (is_none x.parent) _ i)) in
-        let same : top ≡ b.node = sym f.1 ∙ ap (λ (y : Birth). y.node) is in
-        let heads : head (births before) b.node ≡ b.node = head_itself (births before) b ord.sound on (inr root) in
-        rw (same, heads) (same_key-refl b.node)
+        rw (sym f.1 ∙ ap (λ (y : Birth). y.node) is, head_itself (births before) b ord.sound on (inr root)) (same_key-refl b.node)
 
 -- ---- what the allocation of a root unit lays out
 
@@ -175,8 +174,7 @@ module _ (pool : ℕ) (limits : Bound) (before : Timeline) (collection : ℕ) (g
       initial_failure pool (standing pool before collection) (asked (members before collection)) ≡ None →
       Lays pool before (Allocated b.node)
   initial_lays b on ours root waits fits =
-      let ord : IsOrdered before = ordered pool limits before grown in
-      let is : birth_of before b.node ≡ Some b = find_birth (births before) b ord.sound on in
+      let is : birth_of before b.node ≡ Some b = find_birth (births before) b (ordered pool limits before grown).sound on in
       let c : b.collection ≡ collection = eqb-true b.collection collection ours in
       let w : Buffers = asked (members before b.collection) in
       let fits' : initial_failure pool (standing pool before b.collection) w ≡ None =
@@ -214,8 +212,7 @@ module _ (pool : ℕ) (limits : Bound) (before : Timeline) (collection : ℕ) (g
   -- the allocation of a node with a parent lays out nothing
   logical_lays : (b : Birth) → In b (births before) → is_some b.parent ≡ true → Lays pool before (Allocated b.node)
   logical_lays b on child =
-      let ord : IsOrdered before = ordered pool limits before grown in
-      let is : birth_of before b.node ≡ Some b = find_birth (births before) b ord.sound on in
+      let is : birth_of before b.node ≡ Some b = find_birth (births before) b (ordered pool limits before grown).sound on in
       let up : is_none b.parent ≡ false = not_none b.parent child in
       Nothing_new (rw (is, up) refl) (λ k. rw (is, up) refl)
 
@@ -302,15 +299,10 @@ module _ (pool : ℕ) (limits : Bound) (before : Timeline) (mark : Mark) (first 
           (Some buffers) (buffers_of before x.collection)) [])
       names_of x (inl e) =
           let same : collection ≡ x.collection = eqb-true collection x.collection e in
-          let none : buffers_of before x.collection ≡ None = ap (buffers_of before) (sym same) ∙ fresh in
-          let here : times (λ b. same_buffer b x) (names collection buffers.count) ≡ times (λ b.
-          same_buffer b x) (names x.collection buffers.count) =
-          ap (λ (k : ℕ). times (λ b. same_buffer b x) (names k buffers.count)) same in
-          rw (e, none) (omega (arith, here))
+          let here = ap (λ (k : ℕ). times (λ b. same_buffer b x) (names k buffers.count)) same in
+          rw (e, ap (buffers_of before) (sym same) ∙ fresh) (omega (arith, here))
       names_of x (inr e) =
-          let other : times (λ b. same_buffer b x) (names collection buffers.count) ≡ 0 =
-          times_below collection buffers.count x ∙ rw e refl in
-          rw e (omega (arith, other))
+          rw e (omega (arith, times_below collection buffers.count x ∙ rw e refl))
 
 -- so it holds of each timeline that grows from nothing
 pub are_held : (pool : ℕ) (limits : Bound) (marks : Timeline) → Grows pool limits [] marks → AreHeld pool marks
@@ -368,8 +360,7 @@ stands_held pool limits marks g x = any_one (λ (h : HeldBuffer). same_buffer h.
 pub held_once : (pool : ℕ) (limits : Bound) (marks : Timeline) → Grows pool limits [] marks → (x : BufferName) →
     times (λ (h : HeldBuffer). same_buffer h.buffer x) (held pool marks) ≤ 1
 held_once pool limits marks g x =
-    let n : times (λ (h : HeldBuffer). same_buffer h.buffer x) (held pool marks) ≡ one (list_any (λ b.
-    same_buffer b x) (buffer_names marks x.collection) && not (home marks x)) = times_held pool limits marks g x in
+    let n = times_held pool limits marks g x in
     omega (arith, n, few (list_any (λ b. same_buffer b x) (buffer_names marks x.collection) && not (home marks x)))
   where
     -- by cases on the test
@@ -390,6 +381,73 @@ pub free_and_held : (pool : ℕ) (limits : Bound) (marks : Timeline) → Grows p
     free_pages pool marks + sum_by (λ (h : HeldBuffer). h.pages.pages) (held pool marks) ≡ pool
 free_and_held pool limits marks g =
     let a : AreHeld pool marks = are_held pool limits marks g in
-    let le : sum_by (λ (i : Interval). i.pages) (map (λ (h : HeldBuffer). h.pages) (held pool marks)) ≤ pool =
-    sum-le-pool pool (map (λ (h : HeldBuffer). h.pages) (held pool marks)) a.apart a.inside in
+    let le = sum-le-pool pool (map (λ (h : HeldBuffer). h.pages) (held pool marks)) a.apart a.inside in
     omega (arith, sum-pages (held pool marks))
+
+-- ---- each held buffer has the pages that its collection's buffers take
+
+-- the buffers of its collection take as many pages as it has
+abbrev IsSized : Timeline → HeldBuffer → Type 0
+IsSized marks h = (b : Buffers) × (buffers_of marks h.buffer.collection ≡ Some b) × (h.pages.pages ≡ pages_of b.size)
+
+-- so it is of each buffer that was ever given pages
+abbrev AreSized : ℕ → Timeline → Type 0
+AreSized pool marks = (h : HeldBuffer) → In h (placed pool marks) → IsSized marks h
+
+-- what is laid out is one of the buffers, with this many pages
+laid_out-In : (pages : ℕ) (bs : List BufferName) (starts : List ℕ) (h : HeldBuffer) → In h (laid_out pages bs starts) →
+    In h.buffer bs × (h.pages.pages ≡ pages)
+laid_out-In pages [] starts h on = absurd on
+laid_out-In pages (b ∷ bs) [] h on = absurd on
+laid_out-In pages (b ∷ bs) (s ∷ ss) h (inl is) = (inl (ap (λ (k : HeldBuffer). k.buffer) is), ap (λ (k : HeldBuffer). k.pages.pages) is)
+laid_out-In pages (b ∷ bs) (s ∷ ss) h (inr on) = let r = laid_out-In pages bs ss h on in (inr r.0, r.1)
+
+-- a mark that lays out buffers of a new collection, or none, keeps them so
+sized_by : (pool : ℕ) (before : Timeline) (mark : Mark) → AreSized pool before → Lays pool before mark → AreSized pool (mark ∷ before)
+sized_by pool before mark old (Nothing_new e same) h on =
+    let was : IsSized before h = old h (subst (λ (l : List HeldBuffer). In h (l ++ placed pool before)) e on) in
+    (was.0, same h.buffer.collection ∙ was.1, was.2)
+sized_by pool before mark old (New collection buffers starts e there fresh given) h on =
+    elim (In-append (laid_out (pages_of buffers.size) (names collection buffers.count) starts) (placed pool before) h
+    (subst (λ (l : List HeldBuffer). In h (l ++ placed pool before)) e on)) [
+      | inl new ↦
+          let r = laid_out-In (pages_of buffers.size) (names collection buffers.count) starts h new in
+          let n = In-map (λ i. record { collection = collection; index = i }) (range_with_len 0 buffers.count) h.buffer r.0 in
+          let is : collection ≡ h.buffer.collection = sym (ap (λ (x : BufferName). x.collection) n.2) in
+          (buffers, given h.buffer.collection ∙ rw (eq-eqb collection h.buffer.collection is) refl, r.1)
+      | inr there ↦
+          let was : IsSized before h = old h there in
+          (was.0, given h.buffer.collection ∙ still was (either_way (collection == h.buffer.collection)), was.2)
+    ]
+  where
+    -- the collection is not the new one, which had no buffers, so its buffers stay
+    still : (was : IsSized before h) → ((collection == h.buffer.collection) ≡ true) ⊎ ((collection == h.buffer.collection) ≡ false) →
+        cond (collection == h.buffer.collection) (Some buffers) (buffers_of before h.buffer.collection) ≡ Some was.0
+    still was (inl e) =
+        let none : None ≡ Some was.0 = sym fresh ∙ (ap (buffers_of before) (eqb-true collection h.buffer.collection e) ∙ was.1) in
+        cc
+    still was (inr e) = rw e was.1
+
+-- so it is in each timeline that grows from nothing
+are_sized : (pool : ℕ) (limits : Bound) (marks : Timeline) → Grows pool limits [] marks → AreSized pool marks
+are_sized pool limits _ Stays = λ h on. absurd on
+are_sized pool limits _ (Answers before client reply call g answer) =
+    sized_by pool before (Called client reply call) (are_sized pool limits before g) (Nothing_new refl (λ c. refl))
+are_sized pool limits _ (Loses before origin cause g born) =
+    sized_by pool before (Loss origin cause) (are_sized pool limits before g) (Nothing_new refl (λ c. refl))
+are_sized pool limits _ (Ends before c top g e) =
+    sized_by pool before (Ended top) (are_sized pool limits before g) (Nothing_new refl (λ c. refl))
+are_sized pool limits _ (Allocates before c head g e) =
+    sized_by pool before (Allocated head) (are_sized pool limits before g) (allocation_lays pool limits before c g head
+    (forced_why pool c before (Allocated head) e))
+
+-- so it is for each held buffer
+pub held_sized : (pool : ℕ) (limits : Bound) (marks : Timeline) → Grows pool limits [] marks →
+    list_all (λ (h : HeldBuffer). option_map_or (λ (b : Buffers). h.pages.pages == pages_of b.size) (buffers_of marks h.buffer.collection)
+    false) (held pool marks) ≡ true
+held_sized pool limits marks g =
+    all_on (λ (h : HeldBuffer). option_map_or (λ (b : Buffers). h.pages.pages == pages_of b.size) (buffers_of marks h.buffer.collection)
+    false) (held pool marks)
+    (λ h on.
+    let s = are_sized pool limits marks g h (In-filter (λ (k : HeldBuffer). not (home marks k.buffer)) (placed pool marks) h on).0 in
+    rw s.1 (eq-eqb h.pages.pages (pages_of s.0.size) s.2))

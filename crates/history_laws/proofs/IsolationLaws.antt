@@ -85,8 +85,7 @@ module _ (marks : Timeline) (ours theirs : ℕ) (w : IsWhole marks) (other : (ou
   pub not_ours : (b : Birth) → In b (births marks) → b.collection == theirs ≡ true → (key : NodeKey) →
       collection_in (births marks) b.node ≡ collection_in (births marks) key → collection_in (births marks) key ≡ Some ours → ⊥
   not_ours b on h key same here =
-      let is : collection_in (births marks) b.node ≡ Some b.collection =
-      ap (option_map (λ (x : Birth). x.collection)) (find_birth (births marks) b w.sound on) in
+      let is = ap (option_map (λ (x : Birth). x.collection)) (find_birth (births marks) b w.sound on) in
       let both : Some b.collection ≡ Some ours = sym is ∙ (same ∙ here) in
       let ours_is : b.collection ≡ ours = cc in
       both_ways (ours == theirs) (eq-eqb ours theirs (sym ours_is ∙ eqb-true b.collection theirs h)) other

@@ -19,17 +19,12 @@ pub mod KeptLaws
 pub mod LayoutLaws
 pub mod LegalLaws
 pub mod LifeLaws
-pub mod MemberLaws
 pub mod PageLaws
 pub mod ParcelLaws
-pub mod QuietLaws
 pub mod ReachLaws
-pub mod RefusedLaws
 pub mod RejectLaws
 pub mod RestLaws
-pub mod RoomLaws
 pub mod SettledLaws
-pub mod SizeLaws
 pub mod StandingLaws
 pub mod SumLaws
 pub mod TakeLaws

@@ -1,11 +1,14 @@
--- Buffers are placed in the pool, apart from one another and from what is held.
-use Rattle.history_laws.proofs.Common.{AreApart, Bool, In-find, Interval, List, Some, [], and_both, and_left, and_then-Some, ap, are_in}
-use Rattle.history_laws.proofs.Common.{arith, at_pages, cond, either_way, false, has_room, inl, inr, least_start, length, list_any}
-use Rattle.history_laws.proofs.Common.{ltb-false, ltb-true, map, map-Some, meets, nat_le, nat_lt, not-true, option_map, or_both, or_parts}
-use Rattle.history_laws.proofs.Common.{places, range_with_len, refl, subst, suc, sum_by, sum_by-cons, sym, true, zero, ℕ, ◌&&◌, ◌++◌, ◌+◌}
-use Rattle.history_laws.proofs.Common.{◌<◌, ◌||◌, ◌∷◌, ◌≡◌, ◌≤◌}
-use Rattle.std.proofs.lemmas.Bool.{leb-true, leb-false}
-use Rattle.sm_names.proofs.SamenessLaws.{and_right}
+-- Buffers are placed in the pool, apart from one another and from what is held. Where buffers have places, and where some buffer has no
+-- room.
+use Rattle.history_laws.proofs.Common.{AreApart, Bool, In-find, Interval, List, None, Some, [], and_both, and_left, and_then-Some, ap}
+use Rattle.history_laws.proofs.Common.{are_in, arith, at_pages, both_ways, cond, either_way, false, find, has_room, inl, inr, least_start}
+use Rattle.history_laws.proofs.Common.{length, list_any, ltb-false, ltb-true, map, map-Some, meets, nat_le, nat_lt, none_or_some}
+use Rattle.history_laws.proofs.Common.{not-true, option_map, or_both, or_parts, places, range_with_len, refl, subst, suc, sum_by}
+use Rattle.history_laws.proofs.Common.{sum_by-cons, sym, true, zero, ℕ, ◌&&◌, ◌++◌, ◌+◌, ◌<◌, ◌||◌, ◌∙◌, ◌∷◌, ◌≡◌, ◌≤◌}
+use Rattle.std.proofs.lemmas.Bool.{leb-false, leb-true}
+use Rattle.sm_names.proofs.SamenessLaws.{and_right, map-None}
+use Rattle.sm_names.specs.Apart.{AreFirst, IsFirst, IsFull, with_placed}
+use Rattle.sm_names.proofs.PlaceLaws.{start_is_first}
 
 -- an interval that has room ends within the pool and meets nothing that is held
 room_apart : (pool : ℕ) (held : List Interval) (i : Interval) → has_room pool held i ≡ true → (nat_le (i.start + i.pages) pool ≡ true) ×
@@ -151,17 +154,15 @@ has_all a (suc n) =
     let r = has_all a n in
     elim (either_way (in_page n a)) [
       | inl y ↦
-          let a1 : a.start ≤ n = leb-true a.start n (and_left (nat_le a.start n) _ y) in
           let a2 : n < a.start + a.pages = ltb-true n (a.start + a.pages) (and_right (nat_le a.start n) _ y) in
-          let so : has_below a n + a.start ≡ n = r.1 a1 (omega arith) in
+          let so : has_below a n + a.start ≡ n = r.1 (leb-true a.start n (and_left (nat_le a.start n) _ y)) (omega arith) in
           rw y (λ h. absurd (omega arith), λ h k. omega arith, λ h. omega arith)
       | inr out ↦
           elim (either_way (nat_le a.start n)) [
             | inl y ↦
                 let a1 : a.start ≤ n = leb-true a.start n y in
                 let q : nat_lt n (a.start + a.pages) ≡ false = rw y at out in
-                let a2 : a.start + a.pages ≤ n = ltb-false n (a.start + a.pages) q in
-                let so : has_below a n ≡ a.pages = r.2 a2 in
+                let so : has_below a n ≡ a.pages = r.2 (ltb-false n (a.start + a.pages) q) in
                 rw out (λ h. absurd (omega arith), λ h k. absurd (omega arith), λ h. omega arith)
             | inr y ↦
                 let a1 : n < a.start = leb-false a.start n y in
@@ -181,8 +182,7 @@ sum_is_taken pool [] apart inside = sym (none pool)
     none (suc n) = let x : taken_below [] n ≡ 0 = none n in omega arith
 sum_is_taken pool (a ∷ is) apart inside =
     let here : a.start + a.pages ≤ pool = leb-true (a.start + a.pages) pool (and_left (nat_le (a.start + a.pages) pool) _ inside) in
-    let rest : sum_by (λ (i : Interval). i.pages) is ≡ taken_below is pool =
-    sum_is_taken pool is apart.1 (and_right (nat_le (a.start + a.pages) pool) _ inside) in
+    let rest = sum_is_taken pool is apart.1 (and_right (nat_le (a.start + a.pages) pool) _ inside) in
     let all : has_below a pool ≡ a.pages = (has_all a pool).2 here in
     omega (arith, sum_by-cons (λ (i : Interval). i.pages) a is, taken_cons a is pool apart.0)
 
@@ -200,3 +200,106 @@ no_common_page a b h page a1 a2 b1 b2 =
           let q : nat_lt b.start (a.start + a.pages) ≡ false = rw m at h in
           let x : a.start + a.pages ≤ b.start = ltb-false b.start (a.start + a.pages) q in absurd (omega arith)
     ]
+
+-- ---- where buffers have places, and where some buffer has no room
+
+-- where nothing is found, none passes
+find_none : (test : ℕ → Bool) (from many : ℕ) → find test (range_with_len from many) ≡ None → (k : ℕ) → from ≤ k → k < from + many →
+    test k ≡ false
+find_none test from zero h k a b = absurd (omega arith)
+find_none test from (suc many) h k a b =
+    elim (either_way (test from)) [
+      | inl e ↦ let no : Some from ≡ None = rw e at h in cc
+      | inr e ↦ elim (either_way (nat_lt from k)) [
+        | inl l ↦ let lt : from < k = ltb-true from k l in find_none test (from + 1) many (rw e at h) k (omega arith) (omega arith)
+        | inr l ↦
+            let le : k ≤ from = ltb-false from k l in
+            let is : from ≡ k = omega arith in
+            ap test (sym is) ∙ e
+      ]
+    ]
+
+-- ---- the first start with room
+
+module _ (pool pages : ℕ) (held : List Interval) where
+  -- the test that the pages have room at a start
+  abbrev fits_at : ℕ → Bool
+  fits_at start = has_room pool held (at_pages pages start)
+
+  -- where none is found, there is no room
+  no_start : least_start pool pages held ≡ None → IsFull pool pages held
+  no_start h start less = find_none fits_at 0 pool h start (omega arith) (omega (arith, less))
+
+  -- and the first is the one that is found
+  first_is_start : (start : ℕ) → IsFirst pool pages held start → least_start pool pages held ≡ Some start
+  first_is_start start first =
+      elim (none_or_some (least_start pool pages held)) [
+        | inl e ↦ both_ways (fits_at start) first.fits (no_start e start first.below)
+        | inr found ↦ found.1 ∙ ap Some (same found.0 (start_is_first pool pages held found.0 found.1))
+      ]
+    where
+      same : (other : ℕ) → IsFirst pool pages held other → other ≡ start
+      same other it =
+          elim (either_way (nat_lt other start)) [
+            | inl l ↦ both_ways (fits_at other) it.fits (first.least other (ltb-true other start l))
+            | inr l ↦ elim (either_way (nat_lt start other)) [
+              | inl m ↦ both_ways (fits_at start) first.fits (it.least start (ltb-true start other m))
+              | inr m ↦
+                  let a : start ≤ other = ltb-false other start l in
+                  let b : other ≤ start = ltb-false start other m in
+                  omega arith
+            ]
+          ]
+
+  -- and where there is no room, none is found
+  full_no_start : IsFull pool pages held → least_start pool pages held ≡ None
+  full_no_start full =
+      elim (none_or_some (least_start pool pages held)) [
+        | inl e ↦ e
+        | inr found ↦
+            let first = start_is_first pool pages held found.0 found.1 in
+            both_ways (fits_at found.0) first.fits (full found.0 first.below)
+      ]
+
+-- ---- the starts of several buffers
+
+-- starts that are first are the places
+pub first_places : (pool pages count : ℕ) (held : List Interval) (starts : List ℕ) → length starts ≡ count →
+    AreFirst pool pages held starts → places pool pages count held ≡ Some starts
+first_places pool pages zero held [] many first = refl
+first_places pool pages zero held (start ∷ starts) many first = cc
+first_places pool pages (suc count) held [] many first = cc
+first_places pool pages (suc count) held (start ∷ starts) many first =
+    let fewer : length starts ≡ count = omega (arith, many) in
+    rw (first_is_start pool pages held start first.0, first_places pool pages count (at_pages pages start ∷ held) starts fewer first.1) refl
+
+-- some buffers have places, but fewer than there are, and then there is no room for one more
+abbrev pub IsStuck : (pool pages count : ℕ) (held : List Interval) → Type 0
+IsStuck pool pages count held =
+    (starts : List ℕ) × (length starts < count) × AreFirst pool pages held starts × IsFull pool pages (with_placed pages starts held)
+
+-- where there are no places, some buffer has no room
+pub places_stuck : (pool pages count : ℕ) (held : List Interval) → places pool pages count held ≡ None → IsStuck pool pages count held
+places_stuck pool pages zero held h = cc
+places_stuck pool pages (suc count) held h =
+    elim (none_or_some (least_start pool pages held)) [
+      | inl e ↦ ([], omega arith, tt, no_start pool pages held e)
+      | inr found ↦
+          let more : option_map (λ (ss : List ℕ). found.0 ∷ ss) (places pool pages count (at_pages pages found.0 ∷ held)) ≡ None =
+          rw found.1 at h in
+          let rest : IsStuck pool pages count (at_pages pages found.0 ∷ held) =
+          places_stuck pool pages count (at_pages pages found.0 ∷ held) (map-None (λ (ss : List ℕ).
+          found.0 ∷ ss) (places pool pages count (at_pages pages found.0 ∷ held)) more) in
+          (found.0 ∷ rest.0, omega (arith, rest.1), (start_is_first pool pages held found.0 found.1, rest.2), rest.3)
+    ]
+
+-- and where some buffer has no room, there are no places
+pub stuck_places : (pool pages count : ℕ) (held : List Interval) (starts : List ℕ) → length starts < count →
+    AreFirst pool pages held starts → IsFull pool pages (with_placed pages starts held) →
+    places pool pages count held ≡ None
+stuck_places pool pages zero held starts fewer first full = absurd (omega arith)
+stuck_places pool pages (suc count) held [] fewer first full = rw (full_no_start pool pages held full) refl
+stuck_places pool pages (suc count) held (start ∷ starts) fewer first full =
+    let less : length starts < count = omega (arith, fewer) in
+    rw (first_is_start pool pages held start first.0, stuck_places pool pages count (at_pages pages start ∷ held) starts less first.1 full)
+    refl

@@ -46,15 +46,13 @@ strict : (limits : Bound) (marks : Timeline) (client caller : ℕ) (reply : Repl
 strict limits marks client caller (Reply.Collected key kind collection) Call.Collect drawn answer e =
     let t = took_effect_all limits (readings marks) caller (record { slot = 0; generation = 0 }) Call.Collect
     (Reply.Collected key kind collection) refl refl answer.told in
-    let is : caller ≡ client = eqb-true caller client e in
     waits marks client drawn (λ none. let no : Reply.Collected key kind collection ≡ Reply.Empty = t.answered
-    ∙ ap (collected (readings marks)) (ap (parcels marks) is ∙ none) in cc)
+    ∙ ap (collected (readings marks)) (ap (parcels marks) (eqb-true caller client e) ∙ none) in cc)
 strict limits marks client caller (Reply.CollectedHandle buffer strength) Call.Collect drawn answer e =
     let t = took_effect_all limits (readings marks) caller (record { slot = 0; generation = 0 }) Call.Collect (Reply.CollectedHandle buffer
     strength) refl refl answer.told in
-    let is : caller ≡ client = eqb-true caller client e in
     waits marks client drawn (λ none. let no : Reply.CollectedHandle buffer strength ≡ Reply.Empty = t.answered
-    ∙ ap (collected (readings marks)) (ap (parcels marks) is ∙ none) in cc)
+    ∙ ap (collected (readings marks)) (ap (parcels marks) (eqb-true caller client e) ∙ none) in cc)
 strict limits marks client caller _ _ drawn answer e = absurd (false≢true e)
 
 -- with one more parcel, or none, there are no fewer
@@ -67,12 +65,10 @@ pub drawn-called : (limits : Bound) (marks : Timeline) (entry : Entry) → IsAns
     IsDrawn marks → IsDrawn (Called entry.0 entry.2 entry.1 ∷ marks)
 drawn-called limits marks entry answer drawn client =
     let mark : Mark = Called entry.0 entry.2 entry.1 in
-    let more : length (given marks client) ≤ length (given (mark ∷ marks) client) =
-    more_given (given_at client mark) (given marks client) in
+    let more = more_given (given_at client mark) (given marks client) in
     elim (either_way (collects client mark)) [
       | inl e ↦
-          let less : times (collects client) marks < length (given marks client) =
-          strict limits marks client entry.0 entry.2 entry.1 drawn answer e in
+          let less = strict limits marks client entry.0 entry.2 entry.1 drawn answer e in
           rw e (omega arith)
       | inr e ↦ let few : times (collects client) marks ≤ length (given marks client) = drawn client in rw e (omega arith)
     ]

@@ -52,11 +52,9 @@ ancestors_on (b ∷ older) node p sound h =
     elim (either_way (same_key b.node node)) [
       | inl e ↦ let up : b.parent ≡ Some p = rw e at h in
           let old : was_born older p ≡ true = rw up at sound.1 in
-          let other : same_key b.node p ≡ false = not_newest b older p sound old in
-          rw (e, up, other) refl
+          rw (e, up, not_newest b older p sound old) refl
       | inr e ↦ let old : was_born older p ≡ true = parent_born older node p sound.2 (rw e at h) in
-          let other : same_key b.node p ≡ false = not_newest b older p sound old in
-          rw (e, other) (ancestors_on older node p sound.2 (rw e at h))
+          rw (e, not_newest b older p sound old) (ancestors_on older node p sound.2 (rw e at h))
     ]
 
 -- the ancestors of a node are a chain
@@ -75,9 +73,7 @@ ancestors_chain parent (b ∷ older) agrees sound node here =
     -- since a node of the older births is not the newest
     at_older : (k : NodeKey) → was_born older k ≡ true → parent k ≡ parent_in older k
     at_older k old =
-        let other : same_key b.node k ≡ false = not_newest b older k sound old in
-        let there : parent k ≡ parent_in (b ∷ older) k = agrees k (or_right (same_key b.node k) _ old) in
-        rw other at there
+        rw (not_newest b older k sound old) at (agrees k (or_right (same_key b.node k) _ old))
 
     -- by cases on the parent: its chain is one more link of the node's
     from_parent : (o : Option NodeKey) → parent node ≡ o → IfSome o (λ p. was_born older p ≡ true) →
@@ -124,11 +120,9 @@ module _ (bs : List Birth) (sound : AreSound bs) (blocks : NodeKey → Bool) (or
   pub reached_complete : (node : NodeKey) → Reach (parent_in bs) blocks origin node → is_reached node ≡ true
   reached_complete _ Origin = top_on blocks origin (ancestors bs origin)
   reached_complete _ (Up child above r free up) =
-      let below : is_reached child ≡ true = reached_complete child r in
       let on : list_any (same_key highest) (child ∷ above ∷ ancestors bs above) ≡ true =
-      rw (ancestors_on bs child above sound up) at below in
-      let other : same_key highest child ≡ false = goes_up child above free up in
-      rw other at on
+      rw (ancestors_on bs child above sound up) at (reached_complete child r) in
+      rw (goes_up child above free up) at on
   reached_complete _ (Down above child r up) =
       rw (ancestors_on bs child above sound up) (or_right (same_key highest child) _ (reached_complete above r))
 

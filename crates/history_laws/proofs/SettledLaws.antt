@@ -93,7 +93,6 @@ lowers marks mark c =
     let allocated_less : (b : Birth) → In b bs → a' b ≡ true → a b ≡ true =
     λ b _ h. not_or (is_allocation (head bs b.node) mark) (allocated marks b.node)
     (ap not (sym (allocated_next marks mark b.node c.no_event)) ∙ h) in
-    let same : births (mark ∷ marks) ≡ bs = same_births marks mark c.no_event in
     let sum : times g' bs + times a' bs < times g bs + times a bs =
     elim c.new [
       | inl now ↦
@@ -103,7 +102,7 @@ lowers marks mark c =
           let less : times a' bs < times a bs = times-lt a' a bs c.birth allocated_less c.there (ap not now.1) (ap not now.0) in
           let rest : times g' bs ≤ times g bs = times-le g' g bs gone_less in omega arith
     ] in
-    subst (λ (cs : List Birth). times g' cs + times a' cs < times g bs + times a bs) (sym same) sum
+    subst (λ (cs : List Birth). times g' cs + times a' cs < times g bs + times a bs) (sym (same_births marks mark c.no_event)) sum
 
 -- ---- what is forced, and why
 
@@ -146,8 +145,7 @@ next_head_parts : (ms : List Member) (m : Member) → is_next_head ms m ≡ true
 next_head_parts ms m h =
     let parent : Bool = option_map_or (is_allocated ms) m.parent false in
     let ready : Bool = is_ready m.key ms in
-    let a : (not m.gone && (not m.allocated && (parent && ready))) ≡ true =
-    and_right m.attached (not m.gone && (not m.allocated && (parent && ready))) h in
+    let a = and_right m.attached (not m.gone && (not m.allocated && (parent && ready))) h in
     let b : (not m.allocated && (parent && ready)) ≡ true = and_right (not m.gone) (not m.allocated && (parent && ready)) a in
     let c : (parent && ready) ≡ true = and_right (not m.allocated) (parent && ready) b in (
       and_left m.attached (not m.gone && (not m.allocated && (parent && ready))) h,
@@ -170,10 +168,8 @@ module _ (pool collection : ℕ) (marks : Timeline) (mark : Mark) where
       let r = member_birth marks collection t.0 f.0 in
       let b : Birth = r.0 in
       let test : is_deserted ms (member marks b) ≡ true = subst (λ (m : Member). is_deserted ms m ≡ true) r.2 f.1 in
-      let free : (not (gone marks b.node) && not (some_live (subtree b.node ms))) ≡ true =
-      and_right (is_none b.parent || b.attached) (not (gone marks b.node) && not (some_live (subtree b.node ms))) test in
-      let here : gone marks b.node ≡ false =
-      not-true (gone marks b.node) (and_left (not (gone marks b.node)) (not (some_live (subtree b.node ms))) free) in
+      let free = and_right (is_none b.parent || b.attached) (not (gone marks b.node) && not (some_live (subtree b.node ms))) test in
+      let here = not-true (gone marks b.node) (and_left (not (gone marks b.node)) (not (some_live (subtree b.node ms))) free) in
       let none : some_live (subtree b.node ms) ≡ false =
       not-true (some_live (subtree b.node ms)) (and_right (not (gone marks b.node)) (not (some_live (subtree b.node ms))) free) in
       subst (Why pool collection marks) t.2 (rw r.2 (No_live b r.1 r.3 here none))
@@ -201,8 +197,7 @@ module _ (pool collection : ℕ) (marks : Timeline) (mark : Mark) where
   abandoned_why h =
       let t = and_then-Some _ (root_left now.members) mark h in
       let r = root_is t.0 t.1 in
-      let w = when-Some _ _ mark t.2 in
-      subst (Why pool collection marks) w.1 (rw r.2 (Fails r.0 Cause.NoStrong r.1 r.3 r.5))
+      subst (Why pool collection marks) (when-Some _ _ mark t.2).1 (rw r.2 (Fails r.0 Cause.NoStrong r.1 r.3 r.5))
 
   -- the root is allocated or fails
   initial_outcome : (b : Birth) (o : Option Failure) → In b (births marks) → b.collection == collection ≡ true → b.parent ≡ None →
@@ -220,9 +215,8 @@ module _ (pool collection : ℕ) (marks : Timeline) (mark : Mark) where
       let b : Birth = r.0 in
       let w = when-Some _ _ mark t.2 in
       let waits : allocated marks b.node ≡ false = not-true _ (subst (λ (m : Member). not m.allocated ≡ true) r.2 (and_left _ _ w.0)) in
-      let found : root_left (members marks collection) ≡ Some (member marks b) = t.1 ∙ ap Some r.2 in
       subst (Why pool collection marks) w.1 (rw r.2 (initial_outcome b (initial_failure pool now (asked now.members)) r.1 r.3 r.4 r.5 waits
-      found refl))
+      (t.1 ∙ ap Some r.2) refl))
 
   -- an attached node is allocated or fails
   logical_outcome : (b : Birth) (o : Option Failure) → In b (births marks) → b.collection == collection ≡ true → is_some b.parent ≡ true →

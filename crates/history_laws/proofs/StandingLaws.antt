@@ -1,19 +1,57 @@
--- What a collection shows of a loss, and what losses and ends give back.
-use Rattle.history_laws.proofs.Common.{Allocated, AreSound, AreTogether, Birth, Bool, BufferName, Buffers, Cause, Ended, HeldBuffer, In}
-use Rattle.history_laws.proofs.Common.{In-any, In-list_any, List, Loss, Member, NodeKey, None, Option, Some, Strength, Timeline, []}
-use Rattle.history_laws.proofs.Common.{after_allocation, after_end, after_loss, ancestors, and_left, ap, birth_of, births, births_in}
-use Rattle.history_laws.proofs.Common.{blocked, buffers_of, collection_in, either_way, false, filter, gone, held, home, inl, inr}
-use Rattle.history_laws.proofs.Common.{is_at_or_below, is_live, is_under, list_any, map, member, members, names, nat_lt, not, open_total}
-use Rattle.history_laws.proofs.Common.{option_map, option_map_or, or_left, or_right, parent_of, placed, reaches, refl, same_key}
-use Rattle.history_laws.proofs.Common.{same_key-refl, same_key-true, some_strong_live, standing, still_out, subst, sym, top, true, ℕ}
-use Rattle.history_laws.proofs.Common.{◌&&◌, ◌||◌, ◌∙◌, ◌∷◌, ◌≡◌}
+-- What one more mark does to the nodes of a collection. What a collection shows of a loss, and what losses and ends give back.
+use Rattle.history_laws.proofs.Common.{Allocated, AreSound, AreTogether, Birth, Bool, BufferName, Buffers, Call, Called, Cause, Ended}
+use Rattle.history_laws.proofs.Common.{HeldBuffer, In, In-any, In-list_any, List, Loss, Member, NodeKey, None, Option, Reply, Some}
+use Rattle.history_laws.proofs.Common.{Strength, Timeline, [], after_allocation, after_end, after_loss, allocated, ancestors, and_left}
+use Rattle.history_laws.proofs.Common.{ap, birth_of, births, births_in, blocked, buffers_of, collection_in, either_way, false, filter}
+use Rattle.history_laws.proofs.Common.{gone, head, held, home, inl, inr, is_allocation, is_at_or_below, is_live, is_under, list_any, map}
+use Rattle.history_laws.proofs.Common.{member, members, names, nat_lt, not, open_total, option_map, option_map_or, or_left, or_right}
+use Rattle.history_laws.proofs.Common.{parent_of, placed, reaches, refl, same_key, same_key-refl, same_key-true, some_strong_live}
+use Rattle.history_laws.proofs.Common.{standing, still_out, subst, sym, top, true, weak, ℕ, ◌&&◌, ◌||◌, ◌∙◌, ◌∷◌, ◌≡◌}
 use Rattle.sm_names.specs.Changes.{blocks, highest}
 use Rattle.sm_names.proofs.ListLaws.{filter-less}
-use Rattle.history_laws.proofs.MemberLaws.{members-Loss, members-Allocated, members-Ended, map-map_same}
 use Rattle.sm_names.proofs.SamenessLaws.{and_right, both_tests}
 use Rattle.history_laws.proofs.SettledLaws.{find_birth, member_birth}
 use Rattle.history_laws.proofs.WholeLaws.{line_collection, stands_in}
 use Rattle.sm_names.proofs.ChainLaws.{top-same}
+
+-- two maps in turn, where each element comes out alike
+pub map-map_same : {A B : Type 0} (f g : A → B) (h : B → B) → ((x : A) → g x ≡ h (f x)) → (xs : List A) → map g xs ≡ map h (map f xs)
+map-map_same f g h same [] = refl
+map-map_same f g h same (x ∷ xs) = λ i. same x i ∷ map-map_same f g h same xs i
+
+-- a loss takes its reach, and changes nothing else
+pub members-Loss : (marks : Timeline) (collection : ℕ) (origin : NodeKey) (cause : Cause) →
+    members (Loss origin cause ∷ marks) collection ≡ map (after_loss (reaches marks origin)) (members marks collection)
+members-Loss marks collection origin cause =
+    map-map_same (member marks) (member (Loss origin cause ∷ marks)) (after_loss (reaches marks origin)) (λ b.
+    refl) (births_in marks collection)
+
+-- an allocation is of its unit, and changes nothing else
+pub members-Allocated : (marks : Timeline) (collection : ℕ) (head : NodeKey) →
+    members (Allocated head ∷ marks) collection ≡ map (after_allocation head) (members marks collection)
+members-Allocated marks collection head =
+    map-map_same (member marks) (member (Allocated head ∷ marks)) (after_allocation head) (λ b. refl) (births_in marks collection)
+
+-- an end is of its node and all below it, and changes nothing else
+pub members-Ended : (marks : Timeline) (collection : ℕ) (top : NodeKey) →
+    members (Ended top ∷ marks) collection ≡ map (after_end top) (members marks collection)
+members-Ended marks collection top =
+    map-map_same (member marks) (member (Ended top ∷ marks)) (after_end top) (λ b. refl) (births_in marks collection)
+
+-- ---- a birth
+
+-- a birth changes no other node
+pub member-birth : (marks : Timeline) (client collection : ℕ) (parent new : NodeKey) (b : Birth) → same_key new b.node ≡ false →
+    member (Called client (Reply.Token new collection) (Call.Duplicate parent) ∷ marks) b ≡ member marks b
+member-birth marks client collection parent new b other =
+    let called : Timeline = Called client (Reply.Token new collection) (Call.Duplicate parent) ∷ marks in
+    let heads : head (births called) b.node ≡ head (births marks) b.node = rw other refl in
+    let lines : ancestors (births called) b.node ≡ ancestors (births marks) b.node = rw other refl in
+    let allocates : allocated called b.node ≡ allocated marks b.node = ap (λ (k : NodeKey). list_any (is_allocation k) marks) heads in
+    let weakens : weak called b.node ≡ weak marks b.node = rw other refl in
+    λ i. record (member marks b) { above = lines i; head = heads i; allocated = allocates i; weak = weakens i }
+
+-- ---- what a collection shows of a loss, and what losses and ends give back
 
 -- ---- the reach of a loss, as the nodes stand
 
@@ -162,16 +200,14 @@ standing-ended pool collection marks head = λ i. record (standing pool marks co
 filter-same : {A : Type 0} (p q : A → Bool) (xs : List A) → ((x : A) → p x ≡ q x) → filter p xs ≡ filter q xs
 filter-same p q [] same = refl
 filter-same p q (x ∷ xs) same =
-    let on : filter p xs ≡ filter q xs = filter-same p q xs same in
-    rw (same x, on) refl
+    rw (same x, filter-same p q xs same) refl
 
 -- where a map changes no test, some pass after it exactly if some did before
 any-map_same : {A : Type 0} (test : A → Bool) (f : A → A) (xs : List A) → ((x : A) → test (f x) ≡ test x) →
     list_any test (map f xs) ≡ list_any test xs
 any-map_same test f [] same = refl
 any-map_same test f (x ∷ xs) same =
-    let on : list_any test (map f xs) ≡ list_any test xs = any-map_same test f xs same in
-    rw (same x, on) refl
+    rw (same x, any-map_same test f xs same) refl
 
 -- an allocation makes no node live
 strong-allocated : (marks : Timeline) (collection : ℕ) (head : NodeKey) →

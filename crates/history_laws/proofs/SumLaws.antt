@@ -103,8 +103,7 @@ swap_eq a b differ = elim (either_way (b == a)) [
 sum_absent : (k : ℕ) (t : Bool) (ns : List ℕ) → one_of ns k ≡ false → sum_by (λ n. one ((k == n) && t)) ns ≡ 0
 sum_absent k t [] none = refl
 sum_absent k t (n ∷ ns) none =
-    let other : (n == k) ≡ false = or_none_left (n == k) (one_of ns k) none in
-    let here : one ((k == n) && t) ≡ 0 = rw (swap_eq n k other) refl in
+    let here : one ((k == n) && t) ≡ 0 = rw (swap_eq n k (or_none_left (n == k) (one_of ns k) none)) refl in
     omega (arith, here, sum_by-cons (λ n. one ((k == n) && t)) n ns, sum_absent k t ns (or_none_right (n == k) (one_of ns k) none))
 
 -- and one that a listed number passes, at that one alone
@@ -122,8 +121,7 @@ sum_once k true (n ∷ ns) once on =
       | inl e ↦
           let is : n ≡ k = eqb-true n k e in
           let here : one ((k == n) && true) ≡ 1 = rw (eq-eqb k n (sym is)) refl in
-          let none : one_of ns k ≡ false = ap (one_of ns) (sym is) ∙ once.0 in
-          omega (arith, here, sum_by-cons (λ n. one ((k == n) && true)) n ns, sum_absent k true ns none)
+          omega (arith, here, sum_by-cons (λ n. one ((k == n) && true)) n ns, sum_absent k true ns (ap (one_of ns) (sym is) ∙ once.0))
       | inr e ↦
           let here : one ((k == n) && true) ≡ 0 = rw (swap_eq n k e) refl in
           let later : one_of ns k ≡ true = rw e at (on refl) in

@@ -116,8 +116,7 @@ module _ (limits : Bound) (before : Timeline) (client collection : ℕ) (taken :
       from_buffers (Call.Take key) n.birth n.there (ap Some (sym n.is)) (key, refl) (allocated before n.birth.node)
       (buffers_of before n.birth.collection) told
   took_by_call (Call.Close key) answer =
-      let x : Reply.Taken collection taken set ≡ Reply.Done =
-      from_closing limits before client none_key (Call.Close key) (Reply.Taken collection taken set) refl answer.told in
+      let x = from_closing limits before client none_key (Call.Close key) (Reply.Taken collection taken set) refl answer.told in
       cc
   took_by_call (Call.Duplicate key) answer =
       not_it (Call.Duplicate key) refl (not_taken_end _ (λ e. refl) ((readings before).end_of key)) answer

@@ -29,8 +29,7 @@ parent_collection (b ∷ older) sound together node p h =
           let up : b.parent ≡ Some p = rw e at h in
           let there : collection_in older p ≡ Some b.collection = rw up at together.0 in
           let old : was_born older p ≡ true = rw up at sound.1 in
-          let other : same_key b.node p ≡ false = other_key older p b.node old sound.0 in
-          rw (e, other) (sym there)
+          rw (e, other_key older p b.node old sound.0) (sym there)
       | inr e ↦
           let up : parent_in older node ≡ Some p = rw e at h in
           let other : same_key b.node p ≡ false = other_key older p b.node (parent_born older node p sound.2 up) sound.0 in
@@ -127,8 +126,7 @@ stands_in marks collection node here =
     let b : Birth = found.0 in
     let there = In-find (λ (x : Birth). same_key x.node node) bs b found.1 in
     let ours : b.collection == collection ≡ true = eq-eqb b.collection collection found.2 in
-    let born : In b (births_in marks collection) =
-    In-reverse-back _ b (In-filter-back (λ (x : Birth). x.collection == collection) bs b there.0 ours) in
+    let born = In-reverse-back _ b (In-filter-back (λ (x : Birth). x.collection == collection) bs b there.0 ours) in
     (b, In-map-back (member marks) (births_in marks collection) b born, same_key-true b.node node there.1, there.0)
 
 -- ---- forced marks
@@ -159,8 +157,7 @@ pub stands : (marks : Timeline) (collection : ℕ) → IsWhole marks → (head :
     (node : NodeKey) → is_at_or_below (births marks) head.node node ≡ true → (b : Birth) × In (member marks b) (members marks collection) ×
     (b.node ≡ node) × In b (births marks)
 stands marks collection w head on ours node h =
-    let here : collection_in (births marks) head.node ≡ Some head.collection =
-    ap (option_map (λ (b : Birth). b.collection)) (find_birth (births marks) head w.sound on) in
+    let here = ap (option_map (λ (b : Birth). b.collection)) (find_birth (births marks) head w.sound on) in
     let is : head.collection ≡ collection = eqb-true head.collection collection ours in
     stands_in marks collection node (line_collection (births marks) w.sound w.together head.node node h ∙ (here ∙ ap Some is))
 
@@ -170,8 +167,7 @@ why_leaves pool collection marks w _ (No_live b on ours here none) = λ node bel
     (let s = stands marks collection w b on ours node below in
     let under : is_under b.node (member marks s.0) ≡ true =
     subst (λ (k : NodeKey). is_at_or_below (births marks) b.node k ≡ true) (sym s.2) below in
-    let not_kept : is_live (member marks s.0) ≡ false =
-    none-In (is_under b.node) is_live (members marks collection) (member marks s.0) none s.1 under in
+    let not_kept = none-In (is_under b.node) is_live (members marks collection) (member marks s.0) none s.1 under in
     let free' : gone marks s.0.node ≡ false = ap (gone marks) s.2 ∙ free in
     released_spent marks node (ap (released marks) (sym s.2) ∙ not_live (gone marks s.0.node) (released marks s.0.node) not_kept free'))
 why_leaves pool collection marks w _ (Fails b cause on ours here) = tt
@@ -217,8 +213,7 @@ born_below limits marks entry b w answer at parent up =
     from (inr r) =
         let same : Some r.0.node ≡ Some parent = sym r.2 ∙ up in
         let is : r.0.node ≡ parent = cc in
-        let there : collection_in (births marks) r.0.node ≡ Some b.collection =
-        ap (option_map (λ (x : Birth). x.collection)) (find_birth (births marks) r.0 w.sound r.1) ∙ ap Some (sym r.3) in
+        let there = ap (option_map (λ (x : Birth). x.collection)) (find_birth (births marks) r.0 w.sound r.1) ∙ ap Some (sym r.3) in
         let here : gone marks r.0.node ≡ false =
         false_if (gone marks r.0.node) (λ g. (let no : false ≡ true = ap is_some (sym r.5) ∙ w.failed r.0.node g r.4 in cc)) in
         subst (BornBelow marks b) is (record { together = there; not_gone = here })

@@ -1,19 +1,409 @@
--- What a birth does to a table.
-use Rattle.node_table.proofs.Common.{Births, Bool, Bumped, IfSome, IsLinked, IsRun, IsSome, IsSound, List, NodeKey, None, Option, Row}
-use Rattle.node_table.proofs.Common.{Slot, Some, Table, [], ap, arith, at_parent, at_slot, cases_eq, children_at, children_in, count_by}
-use Rattle.node_table.proofs.Common.{entry_in, false, first_in, given_count, inl, inr, is_some, last_in, nat_le, nat_lt, nat_tests}
-use Rattle.node_table.proofs.Common.{next_at, next_in, option_map, parent_at, parent_in, prev_in, refl, row_at, row_in, rows_of, run_in}
-use Rattle.node_table.proofs.Common.{same_key, slice_index_or, stamp_in, subst, sym, table_of, true, was_given, with_child, with_vacant}
-use Rattle.node_table.proofs.Common.{ℕ, ◌&&◌, ◌+◌, ◌<◌, ◌==◌, ◌^◌, ◌∙◌, ◌≡◌, ◌≢◌, ◌≤◌}
+-- What a change of the slots does to the table that they make. What a change of the parent's row does to the row of each key. What each
+-- change does to the links of all nodes. What a birth does to a table.
+use Rattle.node_table.proofs.Common.{Births, Bool, Bumped, Contains, EditsRows, IfSome, IsLinked, IsRun, IsSome, IsSound, List, NodeKey}
+use Rattle.node_table.proofs.Common.{None, Option, Row, Slot, SlotEntry, Some, Table, Taken, [], ap, arith, at_parent, at_slot, cases_eq}
+use Rattle.node_table.proofs.Common.{children_at, children_in, cond, core_of, count_by, entry_in, eqb-true, false, first_in, given_count}
+use Rattle.node_table.proofs.Common.{if◌then◌else◌, inl, inr, is_some, last_in, link_in, map, nat_le, nat_lt, nat_tests, next_at, next_in}
+use Rattle.node_table.proofs.Common.{option_map, parent_at, parent_in, prev_in, refl, row_at, row_in, row_of, rows_of, run_from, run_in}
+use Rattle.node_table.proofs.Common.{same_key, slice_index_or, slice_set, stamp_in, subst, suc, sym, table_of, true, was_given}
+use Rattle.node_table.proofs.Common.{with_child, with_children, with_vacant, without_child, without_parent, zero, ℕ, ◌&&◌, ◌++◌, ◌+◌, ◌<◌}
+use Rattle.node_table.proofs.Common.{◌==◌, ◌^◌, ◌∙◌, ◌∷◌, ◌≡◌, ◌≢◌, ◌≤◌, ◌⊎◌}
+use Rattle.std.proofs.Math.ListN.{get_or-map}
+use Rattle.node_table.specs.declared.slot.Slot.TheVariants.{Retired}
+use Rattle.node_table.proofs.Depths.{count-gain, count-same, next-there, none-then, slot-there}
+use Rattle.node_table.proofs.Keys.{eq-false, eq-true, key_cases, same-fields, same_key-apart, same_key-equal, slot_tells_key}
+use Rattle.node_table.proofs.Lists.{AllDiffer, AllDiffer-push, AllDiffer-without, Contains-before_last, Contains-but_last, Contains-last}
+use Rattle.node_table.proofs.Lists.{Contains-without, given-between, without, without_keeps, without_lacks, without_stranger}
 use Rattle.std.proofs.Common.{◌||◌}
 use Rattle.std.proofs.Math.Bool.{and-false}
-use Rattle.node_table.proofs.Rows.{count-gain}
-use Rattle.node_table.proofs.Keys.{eq-true, eq-false, same-fields, key_cases, same_key-equal, same_key-apart}
-use Rattle.node_table.proofs.Parents.{map-parent, map-stranger, map-up, children-with}
-use Rattle.node_table.proofs.Links.{IsLinked-birth}
-use Rattle.node_table.proofs.Depths.{none-then}
-use Rattle.node_table.proofs.Slots.{row-at, map-then, is_some-option_map, slot_as_parent, vacant-before}
-use Rattle.node_table.proofs.Readings.{given-between}
+
+-- a value is there after a map as before
+pub is_some-option_map : {X Y : Type 0} (f : X → Y) (o : Option X) → is_some (option_map f o) ≡ is_some o
+is_some-option_map f None = refl
+is_some-option_map f (Some x) = refl
+
+-- a map goes past a test, where it does the same when the test holds
+pub map-then : {X : Type 0} (b : Bool) (o : Option X) (f h : X → X) → (b ≡ true → (x : X) → f x ≡ h x) →
+    cond b (option_map f o) None ≡ option_map h (cond b o None)
+map-then true None f h same = refl
+map-then true (Some x) f h same = ap Some (same refl x)
+map-then false o f h same = refl
+
+-- a map that changes no value changes nothing
+pub option_map-keeps : {X : Type 0} (f : X → X) → ((x : X) → f x ≡ x) → (o : Option X) → option_map f o ≡ o
+option_map-keeps f keeps None = refl
+option_map-keeps f keeps (Some x) = ap Some (keeps x)
+
+-- a write before a map is a write after it
+pub map-write : {X Y : Type 0} (f : X → Y) (xs : List X) (i : ℕ) (x : X) → map f (slice_set xs i x) ≡ slice_set (map f xs) i (f x)
+map-write f [] i x = refl
+map-write f (y ∷ ys) zero x = refl
+map-write f (y ∷ ys) (suc i) x = ap (λ zs. f y ∷ zs) (map-write f ys i x)
+
+-- a write is read where there was a value
+pub write-same : {X : Type 0} (xs : List (Option X)) (i : ℕ) (x : Option X) → IsSome (slice_index_or xs i None) →
+    slice_index_or (slice_set xs i x) i None ≡ x
+write-same [] i x there = absurd (cc)
+write-same (y ∷ ys) zero x there = refl
+write-same (y ∷ ys) (suc i) x there = write-same ys i x there
+
+-- every other place keeps what it had
+pub write-other : {X : Type 0} (xs : List (Option X)) (i j : ℕ) (x : Option X) → j ≢ i →
+    slice_index_or (slice_set xs i x) j None ≡ slice_index_or xs j None
+write-other [] i j x differ = refl
+write-other (y ∷ ys) zero zero x differ = absurd (differ refl)
+write-other (y ∷ ys) zero (suc j) x differ = refl
+write-other (y ∷ ys) (suc i) zero x differ = refl
+write-other (y ∷ ys) (suc i) (suc j) x differ = write-other ys i j x (λ same. differ (ap suc same))
+
+module _ {N : Type 0} where
+  -- the row of a slot is read from the slot
+  pub row-at : (slots : List (Option (Slot N))) (most i : ℕ) →
+      slice_index_or (rows_of slots most) i None ≡ row_in (next_in slots) most (slice_index_or slots i None)
+  row-at slots most i = get_or-map (row_in (next_in slots) most) slots i None
+
+  -- what a row is made of
+  pub row-parts : (next : ℕ → Option NodeKey) (most : ℕ) (o : Option (SlotEntry N)) →
+      option_map (row_of next most) o ≡ option_map (with_children (run_from next most (link_in (λ (e : SlotEntry N). e.first) o)))
+      (option_map core_of o)
+  row-parts next most None = refl
+  row-parts next most (Some e) = refl
+
+  -- a slot with a row is taken by an entry
+  pub entry-of-row : (next : ℕ → Option NodeKey) (most : ℕ) (o : Option (Slot N)) → IsSome (row_in next most o) →
+      (e : SlotEntry N) × (o ≡ Some (Taken e))
+  entry-of-row next most None some = absurd (cc)
+  entry-of-row next most (Some Retired) some = absurd (cc)
+  entry-of-row next most (Some (Taken e)) some = (e, refl)
+
+  -- a slot whose entry this is is taken by it
+  pub taken-by : (o : Option (Slot N)) (e : SlotEntry N) → entry_in o ≡ Some e → o ≡ Some (Taken e)
+  taken-by None e is = absurd (cc)
+  taken-by (Some Retired) e is = absurd (cc)
+  taken-by (Some (Taken other)) e is = ap (λ (entry : SlotEntry N). Some (Taken entry)) (cc)
+
+  -- a key that is there has an entry in its slot
+  pub entry-there : (slots : List (Option (Slot N))) (nexts : List ℕ) (first limit : ℕ) (key : NodeKey) →
+      IsSome (row_at (table_of slots nexts first limit) key) → (e : SlotEntry N) × (slice_index_or slots key.slot None ≡ Some (Taken e))
+  entry-there slots nexts first limit key there =
+      entry-of-row (next_in slots) (given_count first nexts) (slice_index_or slots key.slot None) (subst (λ (o : Option (Row N)).
+      IsSome o) (row-at slots (given_count first nexts) key.slot) (slot-there (table_of slots nexts first limit) key there))
+
+  -- so has a parent that is there
+  pub entry-parent : (slots : List (Option (Slot N))) (nexts : List ℕ) (first limit : ℕ) (parent : Option NodeKey) →
+      IfSome parent (λ p. IsSome (row_at (table_of slots nexts first limit) p)) →
+      IfSome parent (λ p. (e : SlotEntry N) × (slice_index_or slots p.slot None ≡ Some (Taken e)))
+  entry-parent slots nexts first limit None there = tt
+  entry-parent slots nexts first limit (Some p) there = entry-there slots nexts first limit p there
+
+  -- a write of one row is an edit of it
+  pub edit-one : (rows : List (Option (Row N))) (key : NodeKey) (f : Row N → Row N) → IsSome (slice_index_or rows key.slot None) →
+      EditsRows rows (slice_set rows key.slot (option_map f (slice_index_or rows key.slot None))) (Some key) f
+  edit-one rows key f there i =
+      elim (cases_eq i key.slot) [
+        | inl same ↦
+            ap (λ j. slice_index_or (slice_set rows key.slot (option_map f (slice_index_or rows key.slot None))) j None) same
+            ∙ (write-same rows key.slot (option_map f (slice_index_or rows key.slot None)) there
+            ∙ (sym (ap (λ b. option_map (λ (row : Row N). if b then f row else row) (slice_index_or rows key.slot None))
+            (eq-true key.slot key.slot refl))
+            ∙ ap (λ j. option_map (at_slot (Some key) f j) (slice_index_or rows j None)) (sym same)))
+        | inr differ ↦
+            write-other rows key.slot i (option_map f (slice_index_or rows key.slot None)) differ
+            ∙ sym (option_map-keeps (at_slot (Some key) f i) (λ (row : Row N).
+            ap (λ b. if b then f row else row) (eq-false key.slot i (λ same. differ (sym same)))) (slice_index_or rows i None))
+      ]
+
+  -- where the parent is there, its slot tells its key
+  pub slot_as_parent : (t : Table N) (parent : Option NodeKey) (f : Row N → Row N) (key : NodeKey) →
+      IfSome parent (λ p. IsSome (row_at t p)) → (next_at t key.slot == key.generation + 1) ≡ true → (row : Row N) →
+      at_slot parent f key.slot row ≡ at_parent parent f key row
+  slot_as_parent t None f key there test row = refl
+  slot_as_parent t (Some p) f key there test row = ap (λ b. if b then f row else row) (slot_tells_key p key same)
+    where
+      same : p.slot ≡ key.slot → p.generation ≡ key.generation
+      same slots =
+          let one : next_at t p.slot ≡ p.generation + 1 = next-there t p there in
+          let two : next_at t key.slot ≡ key.generation + 1 = eqb-true (next_at t key.slot) (key.generation + 1) test in
+          let both : next_at t p.slot ≡ next_at t key.slot = ap (next_at t) slots in
+          omega arith
+
+  -- the row of each key after an edit of the parent's row
+  pub edited-key : (old new : List (Option (Row N))) (nexts : List ℕ) (first limit : ℕ) (parent : Option NodeKey) (f : Row N → Row N) →
+      EditsRows old new parent f → IfSome parent (λ p.
+      IsSome (row_at (record { rows = old; nexts = nexts; first = first; limit = limit; vacant = 0 }) p)) → (key : NodeKey) →
+      row_at (record { rows = new; nexts = nexts; first = first; limit = limit; vacant = 0 }) key ≡ option_map (at_parent parent f key)
+      (row_at (record { rows = old; nexts = nexts; first = first; limit = limit; vacant = 0 }) key)
+  edited-key old new nexts first limit parent f edits there key =
+      rw (edits key.slot)
+      (map-then _ _ (at_slot parent f key.slot) (at_parent parent f key)
+      (slot_as_parent (record { rows = old; nexts = nexts; first = first; limit = limit; vacant = 0 }) parent f key there))
+
+  -- there are as many nodes after an edit
+  pub edited-count : (old new : List (Option (Row N))) (parent : Option NodeKey) (f : Row N → Row N) → EditsRows old new parent f →
+      count_by is_some new ≡ count_by is_some old
+  edited-count old new parent f edits =
+      count-same old new (λ i. ap is_some (edits i) ∙ is_some-option_map (at_slot parent f i) (slice_index_or old i None))
+
+  -- a slot is vacant after an edit only if it was before
+  pub vacant-before : (o p : Option (Slot N)) → is_some p ≡ is_some o → p ≡ None → o ≡ None
+  vacant-before None p same none = refl
+  vacant-before (Some slot) p same none = absurd (cc)
+
+-- ---- what a change of the parent's row does to the row of each key
+
+-- a key is the parent or it is not
+pub parent_cases : (parent : Option NodeKey) (key : NodeKey) → (parent ≡ Some key) ⊎ (parent ≢ Some key)
+parent_cases None key = inr (λ same. absurd (cc))
+parent_cases (Some other) key =
+    elim (key_cases other key) [ inl same ↦ inl (ap Some same) | inr differ ↦ inr (λ same. differ (cc)) ]
+
+module _ {N : Type 0} where
+  -- the parent's row changes
+  pub map-parent : (parent : Option NodeKey) (f : Row N → Row N) (key : NodeKey) (o : Option (Row N)) → parent ≡ Some key →
+      option_map (at_parent parent f key) o ≡ option_map f o
+  map-parent None f key o same = absurd (cc)
+  map-parent (Some other) f key None same = refl
+  map-parent (Some other) f key (Some row) same = let is : other ≡ key = cc in rw (same_key-equal other key is) refl
+
+  -- every other row stays
+  pub map-stranger : (parent : Option NodeKey) (f : Row N → Row N) (key : NodeKey) (o : Option (Row N)) → parent ≢ Some key →
+      option_map (at_parent parent f key) o ≡ o
+  map-stranger None f key None differ = refl
+  map-stranger None f key (Some row) differ = refl
+  map-stranger (Some other) f key None differ = refl
+  map-stranger (Some other) f key (Some row) differ = rw (same_key-apart other key (λ same. differ (ap Some same))) refl
+
+  -- a change under a test keeps the parent, if the change does
+  up-through : (b : Bool) (f : Row N → Row N) (row : Row N) → (f row).parent ≡ row.parent → (if b then f row else row).parent ≡ row.parent
+  up-through true f row keeps = keeps
+  up-through false f row keeps = refl
+
+  -- a change under a test keeps the children, if the change does
+  down-through : (b : Bool) (f : Row N → Row N) (row : Row N) → (f row).children ≡ row.children →
+      (if b then f row else row).children ≡ row.children
+  down-through true f row keeps = keeps
+  down-through false f row keeps = refl
+
+  -- a change that keeps each row's parent keeps all links up
+  pub map-up : (parent : Option NodeKey) (f : Row N → Row N) (key : NodeKey) (o : Option (Row N)) →
+      ((row : Row N) → (f row).parent ≡ row.parent) → parent_in (option_map (at_parent parent f key) o) ≡ parent_in o
+  map-up parent f key None keeps = refl
+  map-up None f key (Some row) keeps = refl
+  map-up (Some other) f key (Some row) keeps = up-through (same_key other key) f row (keeps row)
+
+  -- a change that keeps each row's children keeps all links down
+  pub map-down : (parent : Option NodeKey) (f : Row N → Row N) (key : NodeKey) (o : Option (Row N)) →
+      ((row : Row N) → (f row).children ≡ row.children) → children_in (option_map (at_parent parent f key) o) ≡ children_in o
+  map-down parent f key None keeps = refl
+  map-down None f key (Some row) keeps = refl
+  map-down (Some other) f key (Some row) keeps = down-through (same_key other key) f row (keeps row)
+
+  -- a row that is there has the new child last
+  pub children-with : (child : NodeKey) (o : Option (Row N)) → IsSome o →
+      children_in (option_map (with_child child) o) ≡ children_in o ++ child ∷ []
+  children-with child None there = absurd (cc)
+  children-with child (Some row) there = refl
+
+  -- a row has the children but this one
+  pub children-without : (child : NodeKey) (o : Option (Row N)) →
+      children_in (option_map (without_child child) o) ≡ without child (children_in o)
+  children-without child None = refl
+  children-without child (Some row) = refl
+
+  -- a row without its parent has none
+  pub parent-without : (o : Option (Row N)) → parent_in (option_map without_parent o) ≡ None
+  parent-without None = refl
+  parent-without (Some row) = refl
+
+  -- a row without its parent has its children
+  pub children-kept : (o : Option (Row N)) → children_in (option_map without_parent o) ≡ children_in o
+  children-kept None = refl
+  children-kept (Some row) = refl
+
+-- ---- what each change does to the links of all nodes
+
+module _ (up : NodeKey → Option NodeKey) (down : NodeKey → List NodeKey) (up2 : NodeKey → Option NodeKey) (down2 : NodeKey →
+    List NodeKey) (old : IsLinked up down) where
+  -- the same links stay linked
+  pub IsLinked-same : ((key : NodeKey) → up2 key ≡ up key) → ((key : NodeKey) → down2 key ≡ down key) → IsLinked up2 down2
+  IsLinked-same ups downs =
+      record {
+        linked = λ parent key. (
+          λ above. subst (λ keys. Contains keys key) (sym (downs parent)) ((old.linked parent key).0 (sym (ups key) ∙ above)),
+          λ there. ups key ∙ (old.linked parent key).1 (subst (λ keys. Contains keys key) (downs parent) there),
+        );
+        once = λ key. subst AllDiffer (sym (downs key)) (old.once key);
+        rank = old.rank;
+        ranked = λ parent key above. old.ranked parent key (sym (ups key) ∙ above);
+      }
+
+  -- a key is taken out of its parent's children
+  pub IsLinked-cut : (key : NodeKey)
+      → up2 key ≡ None
+      → ((other : NodeKey) → other ≢ key → up2 other ≡ up other)
+      → ((parent : NodeKey) → (up key ≡ Some parent) → down2 parent ≡ without key (down parent))
+      → ((parent : NodeKey) → (up key ≢ Some parent) → down2 parent ≡ down parent)
+      → IsLinked up2 down2
+  IsLinked-cut key loose ups losing keeping =
+      record {
+        linked = λ parent other. (climb parent other, descend parent other);
+        once = λ parent. subst AllDiffer (sym (downs parent)) (AllDiffer-without key (down parent) (old.once parent));
+        rank = old.rank;
+        ranked = λ parent other above. old.ranked parent other (kept parent other above);
+      }
+    where
+      downs : (parent : NodeKey) → down2 parent ≡ without key (down parent)
+      downs parent =
+          elim (parent_cases (up key) parent) [
+            | inl above ↦ losing parent above
+            | inr other ↦ keeping parent other ∙ sym (without_stranger key (down parent) (λ there. other ((old.linked parent key).1 there)))
+          ]
+
+      other_than_key : (parent other : NodeKey) → up2 other ≡ Some parent → other ≢ key
+      other_than_key parent other above same = let none : up2 other ≡ None = subst (λ k. up2 k ≡ None) (sym same) loose in absurd (cc)
+
+      kept : (parent other : NodeKey) → up2 other ≡ Some parent → up other ≡ Some parent
+      kept parent other above = sym (ups other (other_than_key parent other above)) ∙ above
+
+      climb : (parent other : NodeKey) → up2 other ≡ Some parent → Contains (down2 parent) other
+      climb parent other above =
+          subst (λ keys. Contains keys other) (sym (downs parent))
+          (without_keeps key other (down parent) (other_than_key parent other above)
+          ((old.linked parent other).0 (kept parent other above)))
+
+      descend : (parent other : NodeKey) → Contains (down2 parent) other → up2 other ≡ Some parent
+      descend parent other there =
+          let left : Contains (without key (down parent)) other = subst (λ keys. Contains keys other) (downs parent) there in
+          elim (key_cases other key) [
+            | inl same ↦ absurd (without_lacks key (down parent) (subst (λ k. Contains (without key (down parent)) k) same left))
+            | inr differ ↦ ups other differ ∙ (old.linked parent other).1 (Contains-without key other (down parent) left)
+          ]
+
+  -- a key that had no links is born below a parent, or as a root
+  pub IsLinked-birth : (parent : Option NodeKey) (key : NodeKey)
+      → up key ≡ None
+      → down key ≡ []
+      → parent ≢ Some key
+      → up2 key ≡ parent
+      → down2 key ≡ []
+      → ((other : NodeKey) → other ≢ key → up2 other ≡ up other)
+      → ((above : NodeKey) → (parent ≡ Some above) → down2 above ≡ down above ++ key ∷ [])
+      → ((above : NodeKey) → above ≢ key → (parent ≢ Some above) → down2 above ≡ down above)
+      → IsLinked up2 down2
+  IsLinked-birth parent key rootless childless stranger born bare ups gaining keeping =
+      record {
+        linked = λ above other. (climb above other, descend above other);
+        once = differ;
+        rank = ranks;
+        ranked = lower;
+      }
+    where
+      no_child_of_key : (other : NodeKey) → Contains (down key) other → ⊥
+      no_child_of_key other there =
+          let none : Contains [] other = subst (λ keys. Contains keys other) childless there in absurd (omega (arith, none.1))
+
+      key_is_no_child : (above : NodeKey) → Contains (down above) key → ⊥
+      key_is_no_child above there = let has : up key ≡ Some above = (old.linked above key).1 there in absurd (cc)
+
+      climb : (above other : NodeKey) → up2 other ≡ Some above → Contains (down2 above) other
+      climb above other has =
+          elim (key_cases other key) [
+            | inl same ↦
+                let here : parent ≡ Some above = sym born ∙ subst (λ k. up2 k ≡ Some above) same has in
+                subst (λ keys. Contains keys other) (sym (gaining above here)) (subst (λ k. Contains (down above ++ key ∷ []) k) (sym same)
+                (Contains-last (down above) key))
+            | inr differ ↦
+                let was : Contains (down above) other = (old.linked above other).0 (sym (ups other differ) ∙ has) in
+                elim (parent_cases parent above) [
+                  | inl here ↦
+                      subst (λ keys. Contains keys other) (sym (gaining above here)) (Contains-before_last (down above) key other was)
+                  | inr away ↦ elim (key_cases above key) [
+                    | inl same ↦ absurd (no_child_of_key other (subst (λ k. Contains (down k) other) same was))
+                    | inr apart ↦ subst (λ keys. Contains keys other) (sym (keeping above apart away)) was
+                  ]
+                ]
+          ]
+
+      descend : (above other : NodeKey) → Contains (down2 above) other → up2 other ≡ Some above
+      descend above other there =
+          elim (key_cases above key) [
+            | inl same ↦
+                let none : Contains [] other =
+                subst (λ keys. Contains keys other) bare (subst (λ k. Contains (down2 k) other) same there) in
+                absurd (omega (arith, none.1))
+            | inr apart ↦ elim (parent_cases parent above) [
+              | inl here ↦
+                  let left : Contains (down above ++ key ∷ []) other = subst (λ keys. Contains keys other) (gaining above here) there in
+                  elim (key_cases other key) [
+                    | inl same ↦ ap up2 same ∙ born ∙ here
+                    | inr differ ↦ ups other differ ∙ (old.linked above other).1 (Contains-but_last (down above) key other differ left)
+                  ]
+              | inr away ↦
+                  let left : Contains (down above) other = subst (λ keys. Contains keys other) (keeping above apart away) there in
+                  elim (key_cases other key) [
+                    | inl same ↦ absurd (key_is_no_child above (subst (λ k. Contains (down above) k) same left))
+                    | inr differ ↦ ups other differ ∙ (old.linked above other).1 left
+                  ]
+            ]
+          ]
+
+      differ : (above : NodeKey) → AllDiffer (down2 above)
+      differ above =
+          elim (key_cases above key) [
+            | inl same ↦ subst AllDiffer (sym (ap down2 same ∙ bare ∙ sym childless)) (old.once key)
+            | inr apart ↦ elim (parent_cases parent above) [
+              | inl here ↦
+                  subst AllDiffer (sym (gaining above here)) (AllDiffer-push (down above) key (key_is_no_child above) (old.once above))
+              | inr away ↦ subst AllDiffer (sym (keeping above apart away)) (old.once above)
+            ]
+          ]
+
+      -- the new key ranks below its parent
+      rank_below : Option NodeKey → ℕ
+      rank_below None = 0
+      rank_below (Some above) = suc (old.rank above)
+
+      rank_by : (k : NodeKey) → ((k ≡ key) ⊎ (k ≢ key)) → ℕ
+      rank_by k (inl same) = rank_below parent
+      rank_by k (inr differ) = old.rank k
+
+      ranks : NodeKey → ℕ
+      ranks k = rank_by k (key_cases k key)
+
+      ranks-other : (k : NodeKey) → k ≢ key → ranks k ≡ old.rank k
+      ranks-other k differ = by_case (key_cases k key)
+        where
+          by_case : (c : (k ≡ key) ⊎ (k ≢ key)) → rank_by k c ≡ old.rank k
+          by_case (inl same) = absurd (differ same)
+          by_case (inr apart) = refl
+
+      ranks-key : ranks key ≡ rank_below parent
+      ranks-key = by_case (key_cases key key)
+        where
+          by_case : (c : (key ≡ key) ⊎ (key ≢ key)) → rank_by key c ≡ rank_below parent
+          by_case (inl same) = refl
+          by_case (inr apart) = absurd (apart refl)
+
+      lower : (above other : NodeKey) → up2 other ≡ Some above → ranks above < ranks other
+      lower above other has =
+          elim (key_cases other key) [
+            | inl same ↦
+                let here : parent ≡ Some above = sym born ∙ subst (λ k. up2 k ≡ Some above) same has in
+                let apart : above ≢ key = λ e. stranger (here ∙ ap Some e) in
+                let high : ranks above ≡ old.rank above = ranks-other above apart in
+                let low : ranks other ≡ suc (old.rank above) = ap ranks same ∙ ranks-key ∙ ap rank_below here in
+                omega arith
+            | inr differ ↦
+                let was : up other ≡ Some above = sym (ups other differ) ∙ has in
+                let apart : above ≢ key =
+                λ e. no_child_of_key other (subst (λ k. Contains (down k) other) e ((old.linked above other).0 was)) in
+                let high : ranks above ≡ old.rank above = ranks-other above apart in
+                let low : ranks other ≡ old.rank other = ranks-other other differ in
+                let below : old.rank above < old.rank other = old.ranked above other was in
+                omega arith
+          ]
+
+-- ---- what a birth does to a table
 
 -- one generation more was given, and no other
 given-more : (first generation next : ℕ) → generation ≢ next →
@@ -157,8 +547,7 @@ module _ {N : Type 0} (old new : List (Option (Slot N))) (nexts nexts2 : List �
           ];
           stamped = λ i generation is. elim (cases_eq i key.slot) [
             | inl same ↦
-                let both : Some key.generation ≡ Some generation =
-                sym stamp ∙ (ap (λ j. stamp_in (entry_in (slice_index_or new j None))) (sym same) ∙ is) in
+                let both = sym stamp ∙ (ap (λ j. stamp_in (entry_in (slice_index_or new j None))) (sym same) ∙ is) in
                 let it : key.generation ≡ generation = cc in
                 rw (same, bumped.at, next) (ap (λ g. g + 1) it)
             | inr differ ↦ rw (bumped.others i differ) (sound.stamped i generation (sym (other-stamps i differ) ∙ is))

@@ -5,11 +5,10 @@ use Rattle.node_table.proofs.Common.{entry_in, first_in, given_count, is_some, l
 use Rattle.node_table.proofs.Common.{parent_in, parent_of, prev_in, refl, row_at, row_of, rows_of, run_in, slice_index_or, slice_set}
 use Rattle.node_table.proofs.Common.{stamp_in, sym, table_of, with_vacant, without_child, without_parent, ℕ, ◌+◌, ◌<◌, ◌∙◌, ◌≡◌, ◌≢◌}
 use Rattle.node_table.proofs.Keys.{eq-true}
-use Rattle.node_table.proofs.Parents.{map-parent, map-stranger, map-up, map-down, children-without, parent-without}
+use Rattle.node_table.proofs.Births.{IsLinked-cut, children-without, edit-one, edited-count, edited-key, is_some-option_map, map-down}
+use Rattle.node_table.proofs.Births.{map-parent, map-stranger, map-up, parent-without, row-at, vacant-before}
 use Rattle.node_table.proofs.Lists.{without}
-use Rattle.node_table.proofs.Links.{IsLinked-cut}
-use Rattle.node_table.proofs.Depths.{next-there, slot-there, parent-there}
-use Rattle.node_table.proofs.Slots.{row-at, edit-one, is_some-option_map, edited-key, edited-count, vacant-before}
+use Rattle.node_table.proofs.Depths.{next-there, parent-there, slot-there}
 
 module _ {N : Type 0} (old : List (Option (Slot N))) (nexts : List ℕ) (first count limit : ℕ) (parent : Option NodeKey) (key : NodeKey)
     (sound : IsSound old nexts first count limit)

@@ -1,10 +1,10 @@
--- Every climb from parent to parent ends, in fewer steps than there are nodes.
+-- Every climb from parent to parent ends, in fewer steps than there are nodes. lemmas on lists of options, by what each index finds
 use Rattle.node_table.proofs.Common.{Bool, Contains, IsLinked, IsSome, List, NodeKey, None, Option, Row, Some, Table, [], ap, arith}
 use Rattle.node_table.proofs.Common.{children_at, children_in, cond, count_by, eqb-true, false, if◌then◌else◌, is_some, length, nat_lt}
 use Rattle.node_table.proofs.Common.{nat_tests, next_at, parent_at, parent_in, refl, row_at, slice_index_or, suc, sum_by-cons, true, zero}
-use Rattle.node_table.proofs.Common.{ℕ, ◌&&◌, ◌+◌, ◌-◌, ◌<◌, ◌==◌, ◌∷◌, ◌≡◌, ◌≤◌}
+use Rattle.node_table.proofs.Common.{ℕ, ◌&&◌, ◌+◌, ◌-◌, ◌<◌, ◌==◌, ◌∷◌, ◌≡◌, ◌≢◌, ◌≤◌}
 use Rattle.node_table.specs.Table.{table_len}
-use Rattle.node_table.specs.Forest.{parents_above, depth_at}
+use Rattle.node_table.specs.Forest.{depth_at, parents_above}
 use Rattle.node_table.proofs.Keys.{same-fields}
 
 -- 1 for a taken slot that ranks below this number, and 0 for another
@@ -52,8 +52,7 @@ module _ {X : Type 0} where
   ranked_below-more f most more [] le = omega arith
   ranked_below-more f most more (x ∷ rest) le =
       let head : counts (is_some x) (f 0) most ≤ counts (is_some x) (f 0) more = counts-more (is_some x) (f 0) most more le in
-      let tail : ranked_below (λ slot. f (suc slot)) most rest ≤ ranked_below (λ slot. f (suc slot)) more rest =
-      ranked_below-more (λ slot. f (suc slot)) most more rest le in
+      let tail = ranked_below-more (λ slot. f (suc slot)) most more rest le in
       omega arith
 
   -- a taken slot that ranks between the bounds is counted by the higher one alone
@@ -63,13 +62,11 @@ module _ {X : Type 0} where
   ranked_below-rise f most more zero (x ∷ rest) taken low high =
       let here : counts (is_some x) (f 0) more ≡ 1 = rw taken (counts-yes (f 0) more high) in
       let none : counts (is_some x) (f 0) most ≡ 0 = counts-no (is_some x) (f 0) most low in
-      let tail : ranked_below (λ slot. f (suc slot)) most rest ≤ ranked_below (λ slot. f (suc slot)) more rest =
-      ranked_below-more (λ slot. f (suc slot)) most more rest (omega arith) in
+      let tail = ranked_below-more (λ slot. f (suc slot)) most more rest (omega arith) in
       omega arith
   ranked_below-rise f most more (suc slot) (x ∷ rest) taken low high =
       let head : counts (is_some x) (f 0) most ≤ counts (is_some x) (f 0) more = counts-more (is_some x) (f 0) most more (omega arith) in
-      let tail : ranked_below (λ slot. f (suc slot)) most rest < ranked_below (λ slot. f (suc slot)) more rest =
-      ranked_below-rise (λ slot. f (suc slot)) most more slot rest taken low high in
+      let tail = ranked_below-rise (λ slot. f (suc slot)) most more slot rest taken low high in
       omega arith
 
   -- no more are counted than are taken
@@ -77,16 +74,14 @@ module _ {X : Type 0} where
   ranked_below-all f most [] = omega arith
   ranked_below-all f most (x ∷ rest) =
       let head : counts (is_some x) (f 0) most ≤ cond (is_some x) 1 0 = counts-low (is_some x) (f 0) most in
-      let tail : ranked_below (λ slot. f (suc slot)) most rest ≤ count_by is_some rest =
-      ranked_below-all (λ slot. f (suc slot)) most rest in
+      let tail = ranked_below-all (λ slot. f (suc slot)) most rest in
       rw (sum_by-cons (λ (o : Option X). cond (is_some o) 1 0) x rest) (omega arith)
 
   -- a taken slot that ranks no lower than the bound is not counted
   pub ranked_below-some : (f : ℕ → ℕ) (most slot : ℕ) (slots : List (Option X)) → IsSome (slice_index_or slots slot None) → most ≤ f slot →
       ranked_below f most slots < count_by is_some slots
   ranked_below-some f most slot slots taken low =
-      let rise : ranked_below f most slots < ranked_below f (suc (f slot)) slots =
-      ranked_below-rise f most (suc (f slot)) slot slots taken low (omega arith) in
+      let rise = ranked_below-rise f most (suc (f slot)) slot slots taken low (omega arith) in
       let all : ranked_below f (suc (f slot)) slots ≤ count_by is_some slots = ranked_below-all f (suc (f slot)) slots in
       omega arith
 
@@ -205,8 +200,7 @@ module _ {N : Type 0} (t : Table N) (links : IsLinked (parent_at t) (children_at
   shallow key there =
       let up : depth_at t key ≤ nodes_below (links.rank key) = few_above (length t.rows) key in
       let same : slot_rank key.slot ≡ links.rank key = slot_rank-there key there in
-      let some : nodes_below (links.rank key) < table_len t =
-      ranked_below-some slot_rank (links.rank key) key.slot t.rows (slot-there t key there) (omega arith) in
+      let some = ranked_below-some slot_rank (links.rank key) key.slot t.rows (slot-there t key there) (omega arith) in
       omega arith
 
   -- a node lies one step below its parent
@@ -227,3 +221,39 @@ module _ {N : Type 0} (t : Table N) (links : IsLinked (parent_at t) (children_at
           let step : parents_above t (suc most) parent ≡ parents_above t most parent = steady most parent under in
           let up : parents_above t (suc most) key ≡ suc (parents_above t most parent) = rw above refl in
           omega arith
+
+-- ---- lemmas on lists of options, by what each index finds
+
+module _ {X Y : Type 0} where
+  -- as many values, where the same indices have one
+  pub count-same : (xs : List (Option X)) (ys : List (Option Y)) →
+      ((i : ℕ) → is_some (slice_index_or ys i None) ≡ is_some (slice_index_or xs i None)) → count_by is_some ys ≡ count_by is_some xs
+  count-same [] [] same = refl
+  count-same (x ∷ xs) [] same =
+      rw (sum_by-cons (λ (o : Option X). cond (is_some o) 1 0) x xs, ← (same 0)) (omega (arith, count-same xs [] (λ i. same (suc i))))
+  count-same [] (y ∷ ys) same =
+      rw (sum_by-cons (λ (o : Option Y). cond (is_some o) 1 0) y ys, same 0) (omega (arith, count-same [] ys (λ i. same (suc i))))
+  count-same (x ∷ xs) (y ∷ ys) same =
+      rw (sum_by-cons (λ (o : Option Y). cond (is_some o) 1 0) y ys, sum_by-cons (λ (o : Option X). cond (is_some o) 1 0) x xs, same 0)
+      (omega (arith, count-same xs ys (λ i. same (suc i))))
+
+  -- one value more, where one index gained one
+  pub count-gain : (k : ℕ) (xs : List (Option X)) (ys : List (Option Y)) → is_some (slice_index_or xs k None) ≡ false →
+      is_some (slice_index_or ys k None) ≡ true →
+      ((i : ℕ) → i ≢ k → is_some (slice_index_or ys i None) ≡ is_some (slice_index_or xs i None)) →
+      count_by is_some ys ≡ count_by is_some xs + 1
+  count-gain k xs [] was now same = absurd (cc)
+  count-gain zero [] (y ∷ ys) was now same =
+      let rest : count_by is_some ys ≡ 0 = count-same [] ys (λ i. same (suc i) (λ e. omega arith)) in
+      rw (sum_by-cons (λ (o : Option Y). cond (is_some o) 1 0) y ys, now) (omega (arith, rest))
+  count-gain zero (x ∷ xs) (y ∷ ys) was now same =
+      rw (sum_by-cons (λ (o : Option Y). cond (is_some o) 1 0) y ys, sum_by-cons (λ (o : Option X). cond (is_some o) 1 0) x xs, now, was)
+      (omega (arith, count-same xs ys (λ i. same (suc i) (λ e. omega arith))))
+  count-gain (suc k) [] (y ∷ ys) was now same =
+      let rest : count_by is_some ys ≡ 0 + 1 = count-gain k [] ys refl now (λ i d. same (suc i) (λ e. d (omega arith))) in
+      rw (sum_by-cons (λ (o : Option Y). cond (is_some o) 1 0) y ys, same 0 (λ e. omega arith)) (omega (arith, rest))
+  count-gain (suc k) (x ∷ xs) (y ∷ ys) was now same =
+      let head : is_some y ≡ is_some x = same 0 (λ e. omega arith) in
+      let rest : count_by is_some ys ≡ count_by is_some xs + 1 = count-gain k xs ys was now (λ i d. same (suc i) (λ e. d (omega arith))) in
+      rw (sum_by-cons (λ (o : Option Y). cond (is_some o) 1 0) y ys, sum_by-cons (λ (o : Option X). cond (is_some o) 1 0) x xs, head)
+      (omega (arith, rest))

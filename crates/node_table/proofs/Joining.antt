@@ -1,18 +1,35 @@
--- A child joins its siblings: what the links of all slots are then.
+-- A clone of the slots is the same slots. A child joins its siblings: what the links of all slots are then.
 use Rattle.node_table.proofs.Common.{Births, Bumped, Contains, IfSome, IsRun, IsSome, IsSound, LinksLast, List, NodeKey, None, Option}
 use Rattle.node_table.proofs.Common.{Row, Slab, Slot, SlotEntry, Some, Taken, [], ap, arith, at_slot, cases_eq, core_of, entry_in}
 use Rattle.node_table.proofs.Common.{first_in, get, given_count, if◌then◌else◌, inl, inr, is_some, last_in, last_under, length}
 use Rattle.node_table.proofs.Common.{length-append, link_in, next_in, option_map, prev_in, refl, row_at, rows_of, run_from, run_in}
 use Rattle.node_table.proofs.Common.{slice_index_or, stamp_in, subst, suc, sym, table_in, table_of, true, unless, with_child}
 use Rattle.node_table.proofs.Common.{with_children, zero, ℕ, ◌++◌, ◌+◌, ◌<◌, ◌==◌, ◌∙◌, ◌∷◌, ◌≡◌, ◌≢◌, ◌≤◌}
-use Rattle.slab.specs.Slab.{Updates, slab_len}
-use Rattle.node_table.proofs.Rows.{count-same}
-use Rattle.node_table.proofs.Keys.{eq-true, eq-false}
-use Rattle.node_table.proofs.Runs.{run-push, run-frame, run-last, run-none, run_from-none}
-use Rattle.node_table.proofs.Slots.{entry-there, option_map-keeps}
-use Rattle.node_table.proofs.Leaving.{at_key-away, at_key-here, unless-is}
-use Rattle.node_table.proofs.Births.{sound-born, births}
-use Rattle.node_table.proofs.Chains.{row-is, rows_are, chained_so, member-there, one_key, same_list, runs_short}
+use Rattle.std.specs.List.{AllZip}
+use Rattle.slab.specs.Slab.{IsSlotClone, Updates, slab_len}
+use Rattle.node_table.proofs.Depths.{count-same}
+use Rattle.node_table.proofs.Keys.{eq-false, eq-true}
+use Rattle.node_table.proofs.Runs.{run-frame, run-last, run-none, run-push, run_from-none}
+use Rattle.node_table.proofs.Births.{births, entry-there, option_map-keeps, sound-born}
+use Rattle.node_table.proofs.Steps.{at_key-away, at_key-here, unless-is}
+use Rattle.node_table.proofs.Chains.{chained_so, member-there, one_key, row-is, rows_are, runs_short, same_list}
+
+module _ {N : Type 0} where
+  -- the copy is the same
+  abbrev pub IsSame : Slot N → Slot N → Type 0
+  IsSame slot copy = copy ≡ slot
+
+  -- slots whose copies are the same are the same
+  pub copied : (slots copies : List (Option (Slot N))) → AllZip (IsSlotClone IsSame) slots copies → copies ≡ slots
+  copied [] [] each = refl
+  copied [] (copy ∷ copies) each = absurd each
+  copied (slot ∷ slots) [] each = absurd each
+  copied (None ∷ slots) (None ∷ copies) each = λ i. None ∷ copied slots copies each.1 i
+  copied (None ∷ slots) (Some copy ∷ copies) each = let none = each.0 in absurd (cc)
+  copied (Some slot ∷ slots) (None ∷ copies) each = absurd each.0
+  copied (Some slot ∷ slots) (Some copy ∷ copies) each = λ i. Some (each.0 i) ∷ copied slots copies each.1 i
+
+-- ---- a child joins its siblings: what the links of all slots are then
 
 -- the counts past the given one are as they were
 given-same : (first : ℕ) (xs ys : List ℕ) → ((i : ℕ) → slice_index_or ys i first ≡ slice_index_or xs i first) →
@@ -48,8 +65,7 @@ given-more first (suc slot) [] (y ∷ ys) low more same =
     omega arith
 given-more first (suc slot) (x ∷ xs) (y ∷ ys) low more same =
     let head : y ≡ x = same 0 (λ e. omega arith) in
-    let rest : given_count first ys ≡ given_count first xs + 1 =
-    given-more first slot xs ys low more (λ i d. same (suc i) (λ e. d (omega arith))) in
+    let rest = given-more first slot xs ys low more (λ i d. same (suc i) (λ e. d (omega arith))) in
     omega arith
 
 -- a run with a key has a last one
@@ -139,9 +155,8 @@ module _ {N : Type 0} (old mid new : Slab (Slot N)) (nexts nexts2 : List ℕ) (f
     -- the last child of the parent is one of its children
     last-in : (p l : NodeKey) → parent ≡ Some p → last ≡ Some l → Contains (run p.slot) l
     last-in p l is some =
-        let under : last_in old.slots p.slot ≡ Some l = sym (ap (last_under old.slots) is) ∙ (sym is_last ∙ some) in
         elim (run-last (next_in old.slots) (prev_in old.slots) None (first_in old.slots p.slot) (run p.slot) (last_in old.slots p.slot) l
-        (sound.chained p.slot) under) [
+        (sound.chained p.slot) (sym (ap (last_under old.slots) is) ∙ (sym is_last ∙ some))) [
           | inl none ↦ absurd (cc)
           | inr there ↦ there
         ]

@@ -1,6 +1,6 @@
 -- Whether two keys are one.
-use Rattle.node_table.proofs.Common.{NodeKey, None, Option, Some, ap, arith, cases_eq, false, inl, inr, nat_tests, refl, same_key, true}
-use Rattle.node_table.proofs.Common.{ℕ, ◌==◌, ◌≡◌, ◌≢◌, ◌⊎◌}
+use Rattle.node_table.proofs.Common.{NodeKey, None, Some, ap, arith, cases_eq, false, inl, inr, nat_tests, refl, same_key, true, ℕ, ◌==◌}
+use Rattle.node_table.proofs.Common.{◌≡◌, ◌≢◌, ◌⊎◌}
 
 -- `==` of two numbers, told by `≡`
 pub eq-false : (a b : ℕ) → (a ≡ b → ⊥) → (a == b) ≡ false

@@ -101,8 +101,7 @@ module _ (next prev : ℕ → Option NodeKey) where
         | inl same ↦ run.0 ∙ ap Some same
         | inr later ↦
             let second : next head.slot ≡ Some key = run-starts (Some head) (next head.slot) rest last key run.1.1 later none in
-            let back : prev key.slot ≡ Some head = run-before (Some head) (next head.slot) rest last key run.1.1 second in
-            absurd (none-some head (sym none ∙ back))
+            absurd (none-some head (sym none ∙ (run-before (Some head) (next head.slot) rest last key run.1.1 second)))
       ]
 
   -- a key with none after it is the last
@@ -155,8 +154,7 @@ module _ (next prev : ℕ → Option NodeKey) where
       elim (Contains-cons_cases head key rest there) [
         | inl same ↦ after rest same run.1.1
         | inr later ↦
-            let found : Contains rest other × (prev other.slot ≡ Some key) =
-            run-on (Some head) (next head.slot) rest last key other run.1.1 later is in
+            let found = run-on (Some head) (next head.slot) rest last key other run.1.1 later is in
             (Contains-tail head other rest found.0, found.1)
       ]
     where
@@ -211,9 +209,8 @@ module _ (next prev next2 prev2 : ℕ → Option NodeKey) where
           back end
           (λ none. hook x (Contains-head x rest) (run-none next prev (Some x) (next x.slot) rest last run.1.1 none))
           (λ y ys is. nexts x (Contains-head x rest) (λ at_end.
-          let ends : next x.slot ≡ None = run-end next prev x rest last x run.1.1 at_end in
           let goes : next x.slot ≡ Some y = run-first next prev (Some x) (next x.slot) rest last run.1.1 ∙ ap first_key is in
-          absurd (none-some y (sym ends ∙ goes)))),
+          absurd (none-some y (sym (run-end next prev x rest last x run.1.1 at_end) ∙ goes)))),
     ),
   )
 
@@ -275,7 +272,6 @@ module _ (next prev next2 prev2 : ℕ → Option NodeKey) where
           )
           cut_here (y ∷ ys) same off apart run2 nexts2 prevs2 =
               let goes : next key.slot ≡ Some y = ap (λ (k : NodeKey). next k.slot) same ∙ run2.0 in
-              let is_before : prev key.slot ≡ before = ap (λ (k : NodeKey). prev k.slot) same ∙ run.1.0 in
               let stays : (z : NodeKey) → Contains (y ∷ ys) z → next2 z.slot ≡ next z.slot =
               λ z in_rest. nexts2 z in_rest
               (λ is. off (run-on next prev (Some x) (next x.slot) (y ∷ ys) last z key run2 in_rest (forth z is)).0)
@@ -292,7 +288,7 @@ module _ (next prev next2 prev2 : ℕ → Option NodeKey) where
               (λ e. off (subst (λ k. Contains (y ∷ ys) k) e (Contains-tail y z ys in_ys)))) run2.1.1 in (
                 begins (run.0 ∙ ap Some (sym same)) ∙ goes,
                 (
-                  bridge_back y goes ∙ is_before,
+                  bridge_back y goes ∙ (ap (λ (k : NodeKey). prev k.slot) same ∙ run.1.0),
                   subst (λ o. IsRun next2 prev2 (Some y) o ys last2) (sym (stays y (Contains-head y ys)))
                       (subst (λ o. IsRun next2 prev2 (Some y) (next y.slot) ys o) (sym same_last) later),
                 ),

@@ -6,14 +6,11 @@ use Rattle.node_table.proofs.Common.{option_map, parent_in, prev_in, refl, row_a
 use Rattle.node_table.proofs.Common.{stamp_in, subst, sym, table_in, table_of, table_with_node, true, ℕ, ◌+◌, ◌==◌, ◌∙◌, ◌≡◌, ◌≢◌}
 use Rattle.slab.specs.Slab.{with_value}
 use Rattle.node_table.specs.Changes.{Writes, with_node}
-use Rattle.node_table.proofs.Rows.{count-same}
+use Rattle.node_table.proofs.Depths.{count-same, next-there, slot-there}
 use Rattle.node_table.proofs.Keys.{eq-true, eq-false, same-fields}
-use Rattle.node_table.proofs.Parents.{map-up, map-down}
-use Rattle.node_table.proofs.Links.{IsLinked-same}
-use Rattle.node_table.proofs.Depths.{next-there, slot-there}
-use Rattle.node_table.proofs.Slots.{row-at, is_some-option_map, edit-one, map-write, write-same, write-other, edited-key, edited-count}
-use Rattle.node_table.proofs.Slots.{vacant-before}
-use Rattle.node_table.proofs.Steps.{part-kept, kinds}
+use Rattle.node_table.proofs.Births.{IsLinked-same, edit-one, edited-count, edited-key, is_some-option_map, map-down, map-up, map-write}
+use Rattle.node_table.proofs.Births.{row-at, vacant-before, write-other, write-same}
+use Rattle.node_table.proofs.Steps.{kinds, part-kept}
 use Rattle.node_table.proofs.Runs.{run-frame}
 use Rattle.node_table.proofs.Chains.{chained_so, runs_short}
 
@@ -162,9 +159,8 @@ module _ {N : Type 0} (t : Table N) (key : NodeKey) (node : N) (there : IsSome (
   others k differ =
       elim (cases_eq k.slot key.slot) [
         | inl at ↦
-            let next : next_at t key.slot ≡ key.generation + 1 = next-there t key there in
             let apart : k.generation ≡ key.generation → ⊥ = λ generations. differ (same-fields k key at generations) in
-            rw (at, next, eq-false (key.generation + 1) (k.generation + 1) (λ generations. apart (omega arith))) refl
+            rw (at, next-there t key there, eq-false (key.generation + 1) (k.generation + 1) (λ generations. apart (omega arith))) refl
         | inr apart ↦ ap (λ (o : Option (Row N)). cond (next_at t k.slot == k.generation + 1) o None) (away k.slot apart)
       ]
 

@@ -8,8 +8,7 @@ use Rattle.trackers.proofs.Common.{◌++◌, ◌+◌, ◌-◌, ◌<◌, ◌==◌
 use Rattle.std.specs.Option.{option_to_list}
 use Rattle.std.proofs.lemmas.Bool.{eq-eqb}
 use Rattle.std.proofs.lemmas.List.{same_from_push}
-use Rattle.trackers.proofs.IndexLemmas.{indexed_pop}
-use Rattle.trackers.proofs.Walks.{filter_map_push, row_of}
+use Rattle.trackers.proofs.Walks.{filter_map_push, indexed_pop, row_of}
 
 -- ---- the last of a list
 
@@ -199,9 +198,8 @@ module _ (limit capacity spare : ℕ) (rows left : List TrackerRow) (fired : Lis
       (row : TrackerRow) × (rows ≡ left ++ row ∷ [])
   popped (Some row) is none before tracker attaches = (row, is)
   popped None is none before tracker attaches =
-      let empty : rows ≡ [] = none refl in
       let bad : Attaches before (table_of limit [] fired) tracker =
-      subst (λ (rs : List TrackerRow). Attaches before (table_of limit rs fired) tracker) empty attaches in
+      subst (λ (rs : List TrackerRow). Attaches before (table_of limit rs fired) tracker) (none refl) attaches in
       absurd (some_cells (record { id = tracker.id; name = bad.name }) before.cells (ap (λ (t : TrackerTable). t.cells) bad.next))
     where
       some_cells : (c : Cell) (cs : List Cell) → ◌≡◌ {A = List Cell} [] (cs ++ c ∷ []) → ⊥

@@ -1,11 +1,11 @@
 -- What was finished of one collection, told of the forest.
-use Rattle.alloc_event.proofs.Common.{◌≡◌, ℕ, Bool, true, false, ◌||◌, nat_lt, List, [], ◌∷◌, ◌++◌, Option, Some, None, refl, sym, ap}
-use Rattle.alloc_event.proofs.Common.{subst, ◌∙◌, arith, option_map_or, NodeKey, same_key, Table, Change, Node, Collection, CollectionRow}
-use Rattle.alloc_event.proofs.Common.{IsStored, forest_of, Handles, collection_or_new, Settled, Finishes, Gives, with_birth, before_is}
+use Rattle.alloc_event.proofs.Common.{Bool, Change, Collection, CollectionRow, Finishes, Gives, Handles, IsStored, List, Node, NodeKey}
+use Rattle.alloc_event.proofs.Common.{None, Option, Settled, Some, Table, [], ap, arith, before_is, collection_or_new, false, forest_of}
+use Rattle.alloc_event.proofs.Common.{nat_lt, option_map_or, refl, same_key, subst, sym, with_birth, ℕ, ◌++◌, ◌||◌, ◌∙◌, ◌∷◌, ◌≡◌}
 use Rattle.forest_store.specs.CollectionRows.{SameTable}
 use Rattle.sm_names.specs.Forced.{forced}
 use Rattle.forest_store.specs.Settling.{Settles, standing, changed, given_back, is_birth, no_key}
-use Rattle.std.proofs.Common.{nat_le, slice_index_or}
+use Rattle.std.proofs.Common.{slice_index_or}
 use Rattle.std.proofs.lemmas.Bool.{le-leb}
 use Rattle.node_table.specs.Table.{was_given}
 use Rattle.forest_store.specs.Forest.{given, beside}
@@ -14,8 +14,7 @@ use Rattle.forest_store.specs.Nodes.{new_child}
 -- a key was given by the forest where the table gave it
 pub given_is : (t : Table Node) (ss : List CollectionRow) (key : NodeKey) → t.first ≡ 0 → given (forest_of t ss) key ≡ was_given t key
 given_is t ss key first =
-    let low : nat_le t.first key.generation ≡ true = le-leb _ _ (omega arith) in
-    rw (low, first) refl
+    rw (le-leb _ _ (omega arith), first) refl
 
 -- by the node above
 birth_id : (attached : Bool) (client event : ℕ) (key : NodeKey) (c : Collection) (o : Option Node) →

@@ -1,21 +1,22 @@
--- A birth, after which the forced steps are made at the place of the collection.
-use Rattle.alloc_event.proofs.Common.{◌≡◌, ℕ, ◌==◌, refl, ap, sym, ◌∙◌, subst, true, false, List, [], ◌∷◌, map, get_or}
-use Rattle.alloc_event.proofs.Common.{Option, Some, None, find, HeldBuffer, NodeKey, Table, Change, Entry, Node, Unit}
-use Rattle.alloc_event.proofs.Common.{Collection, IsStored, CollectionRow, collection_in, forest_of, nodes_with, place_in}
-use Rattle.alloc_event.proofs.Common.{rows_of, is_of, Handles, collection_or_new, Holdings, MayClose, AreServedByGiven}
-use Rattle.alloc_event.proofs.Common.{none_in, place_is, get_or_default, sorted_by, Finishes, Gives, with_birth, before_is}
-use Rattle.alloc_event.proofs.Common.{IsForest, Closes, is_some, false≢true, node_at, collection_at, collection_none}
+-- A birth, after which the forced steps are made at the place of the collection. A list of units that got slots which count nothing: what
+-- it counts stays.
+use Rattle.alloc_event.proofs.Common.{AllByRecursion, AreServedByGiven, AreUnits, Change, Closes, Collection, CollectionRow, Entry}
+use Rattle.alloc_event.proofs.Common.{Finishes, Gives, Handles, HeldBuffer, Holdings, IsForest, IsStored, List, MayClose, Node, NodeKey}
+use Rattle.alloc_event.proofs.Common.{None, Option, Some, Table, Unit, [], ap, arith, before_is, collection_at, collection_in}
+use Rattle.alloc_event.proofs.Common.{collection_none, collection_or_new, false, false≢true, find, forest_of, get_or, get_or_default}
+use Rattle.alloc_event.proofs.Common.{is_of, is_some, map, node_at, nodes_with, none_in, place_in, place_is, refl, rows_of, sorted_by}
+use Rattle.alloc_event.proofs.Common.{subst, sym, true, with_birth, ℕ, ◌==◌, ◌∙◌, ◌∷◌, ◌≡◌}
 use Rattle.forest_store.specs.Forest.{IsPoolOf}
 use Rattle.std.proofs.lemmas.Bool.{eq-eqb}
 use Rattle.sm_names.proofs.ListLaws.{In, In-find}
 use Rattle.forest_store.specs.Nodes.{node_of}
-use Rattle.forest_store.specs.Settling.{put, MayChange}
-use Rattle.std.specs.Option.{unwrap_or, option_and_then}
+use Rattle.forest_store.specs.Settling.{MayChange, put}
+use Rattle.std.specs.Option.{option_and_then, unwrap_or}
 use Rattle.forest_store.specs.Calm.{AreCounted}
-use Rattle.forest_store.specs.Counts.{HaveUnits}
+use Rattle.forest_store.specs.Counts.{Extends, HasUnit, HaveUnits}
 use Rattle.forest_store.specs.Given.{HaveGiven, IsServedByGiven}
 use Rattle.forest_store.proofs.lists.SameIntervals.{start_of}
-use Rattle.forest_store.proofs.newborns.Newborn.{Above, Root, Child, Gives-same, born_collection, found_above, key_is, above_is}
+use Rattle.forest_store.proofs.newborns.Newborn.{Above, Child, Gives-same, Root, above_is, born_collection, found_above, key_is}
 use Rattle.forest_store.proofs.newborns.Forest.{keys_before}
 use Rattle.forest_store.proofs.newborns.Quiet.{behind_shown, grown_is, quiet_held, quiet_kept}
 use Rattle.forest_store.proofs.rows.Putting.{cases_place}
@@ -36,8 +37,7 @@ found_put new id (c ∷ cs) own =
     let here : (new.id == id) ≡ true = eq-eqb new.id id own in
     cases_place c.id new.id (find (λ (d : Collection). d.id == id) (put new (c ∷ cs)) ≡ Some new)
     (λ same. rw (same, here) refl) (λ other above. rw (other, above, here) refl) (λ other below.
-    let differs : (c.id == id) ≡ false = ap (λ (i : ℕ). c.id == i) (sym own) ∙ other in
-    rw (other, below, differs) (found_put new id cs own))
+    rw (other, below, ap (λ (i : ℕ). c.id == i) (sym own) ∙ other) (found_put new id cs own))
 
 -- an entry whose collection is found has a place
 placed_there : (t : Table Node) (id : ℕ) (es : List Entry) → is_some (collection_at (forest_of t (rows_of es)) id) ≡ true →
@@ -57,9 +57,8 @@ calm_close : (handles : Handles) {t : Table Node} (us : List Unit) (es : List En
 calm_close handles us [] id told kept all units given = absurd (cc)
 calm_close handles {t} us (x ∷ xs) id {at} told kept all units given =
     let es : List Entry = x ∷ xs in
-    let place = place_is id es at told in
     let e : Entry = get_or es at x in
-    let is : e ≡ get_or es at e = get_or_default es at x e place.within in
+    let is : e ≡ get_or es at e = get_or_default es at x e (place_is id es at told).within in
     ready_close handles es id told is all
     (ready_under us es id e told is kept all units (inside_of us es kept units)
     (subst IsServedByGiven (here_is t es id e told is) (given_at t (rows_of es) id given)))
@@ -170,3 +169,26 @@ module _ {t mid : Table Node} {es born_es : List Entry} {us : List Unit} (forest
     holds = closed.settled.holds;
     size = size;
   }
+
+-- ---- a list of units that got slots which count nothing: what it counts stays
+
+-- the slots count what they did
+counts_stay : (us next : List Unit) → Extends us next → (whole xs : List Node) → AllByRecursion (HasUnit us whole) xs →
+    AllByRecursion (HasUnit next whole) xs
+counts_stay us next longer whole [] all = tt
+counts_stay us next longer whole (n ∷ ns) all =
+    ((omega (arith, longer.longer, all.0.0), longer.same n.key.slot ∙ all.0.1), counts_stay us next longer whole ns all.1)
+
+-- so of each collection
+units_stay : (us next : List Unit) → Extends us next → (cs : List Collection) → AreUnits us cs → AreUnits next cs
+units_stay us next longer [] all = tt
+units_stay us next longer (c ∷ cs) all = (counts_stay us next longer c.nodes c.nodes all.0, units_stay us next longer cs all.1)
+
+-- slots that count nothing keep what holds of a forest
+pub forest_longer : (t : Table Node) (es : List Entry) (us next : List Unit) → IsForest t es us → Extends us next → IsForest t es next
+forest_longer t es us next forest longer = record {
+  kept = forest.kept;
+  counted = forest.counted;
+  units = units_stay us next longer (map (collection_in t) (rows_of es)) forest.units;
+  given = forest.given;
+}

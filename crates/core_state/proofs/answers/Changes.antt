@@ -1,27 +1,27 @@
 -- Which events change a collection, and which change none.
 use Rattle.core_state.proofs.Common.{Bool, Bound, BufferName, Call, Called, Cause, Change, Collection, Effect, Grows, HandleCounts}
 use Rattle.core_state.proofs.Common.{HasEnd, IsAfter, IsAnswer, Loss, Misuse, Node, NodeKey, None, Reply, Some, State, Strength, Timeline}
-use Rattle.core_state.proofs.Common.{Work, [], affected, and_then-Some, ap, arith, at_collection, at_node, birth_at, birth_is, births}
-use Rattle.core_state.proofs.Common.{caller_joined, client-le-total, collection_at, collection_of, cond, done_to, drop_at, either_way}
-use Rattle.core_state.proofs.Common.{false, false≢true, gone, inl, inr, is_kept, is_kept_collection, is_refusal, is_some, key_of, loss_at}
-use Rattle.core_state.proofs.Common.{map-Some, no_key, node_after, node_at, none_or_some, not, not_refused_end, open_of, open_total}
-use Rattle.core_state.proofs.Common.{option_and_then, or_right, own_loss, readings, refl, some_open, subst, sym, took_effect_all, total}
-use Rattle.core_state.proofs.Common.{true, when, whole, work_of, ℕ, ◌<◌, ◌∙◌, ◌∷◌, ◌≡◌, ◌≤◌}
+use Rattle.core_state.proofs.Common.{Work, [], affected, and_then-Some, ap, arith, at_collection, at_node, birth_at, birth_is}
+use Rattle.core_state.proofs.Common.{caller_joined, client-le-total, collection_at, cond, done_to, drop_at, either_way, false, false≢true}
+use Rattle.core_state.proofs.Common.{gone, inl, inr, is_kept_collection, is_refusal, is_some, key_of, loss_at, map-Some, no_key}
+use Rattle.core_state.proofs.Common.{node_after, node_at, none_or_some, not, not_refused_end, open_of, open_total, option_and_then}
+use Rattle.core_state.proofs.Common.{or_right, own_loss, readings, refl, some_open, subst, sym, took_effect_all, total, true, when, whole}
+use Rattle.core_state.proofs.Common.{work_of, ℕ, ◌<◌, ◌∙◌, ◌≡◌, ◌≤◌}
 use Rattle.std.specs.Option.{option_map}
 use Rattle.history_laws.proofs.CountLaws.{counted}
-use Rattle.core_state.proofs.forced.Beginning.{IsFound, at_found, effect_starts, loss_starts, nothing_starts, root_starts, child_starts}
-use Rattle.core_state.proofs.forced.Beginning.{attached_starts}
-use Rattle.core_state.proofs.nodes.Called.{said}
-use Rattle.core_state.proofs.forced.CallStep.{IsIdle}
+use Rattle.core_state.proofs.forced.StillOut.{at_found, attached_starts, child_starts, effect_starts, loss_starts, nothing_starts}
+use Rattle.core_state.proofs.forced.StillOut.{root_starts}
+use Rattle.core_state.proofs.nodes.Ancestors.{said}
+use Rattle.core_state.proofs.forced.Starting.{IsIdle}
 use Rattle.core_state.proofs.forced.Dropping.{stays, took_last}
 use Rattle.core_state.proofs.forced.Losing.{IsLosing, losing, no_work}
-use Rattle.core_state.proofs.collections.Elsewhere.{named_in}
-use Rattle.core_state.proofs.handles.Counts.{opens_alike, alike_called, alike_dropped}
-use Rattle.core_state.proofs.ends.Forgotten.{open_kept}
+use Rattle.core_state.proofs.collections.Pages.{named_in}
+use Rattle.core_state.proofs.handles.Counts.{alike_called, alike_dropped, opens_alike}
+use Rattle.core_state.proofs.ends.Transfers.{open_kept}
 use Rattle.core_state.proofs.views.Nodes.{collection_kept, collection_there, node_kept, node_there}
-use Rattle.core_state.proofs.collections.Roots.{HasRoot, kept_root}
-use Rattle.core_state.proofs.nodes.Misused.{misused_here}
-use Rattle.core_state.proofs.forced.Work.{Starts}
+use Rattle.core_state.proofs.collections.Roots.{kept_root}
+use Rattle.core_state.proofs.nodes.Unborn.{misused_here}
+use Rattle.core_state.proofs.forced.Change.{Starts}
 
 -- ---- misuses
 
@@ -53,8 +53,7 @@ module _ (s : State) (marks : Timeline) (shown : IsAfter s marks) (limits : Boun
   -- a node whose end is there is there
   node_of_end : (key : NodeKey) (end : HasEnd marks key) → node_at s.forest key ≡ Some (node_after marks end.birth)
   node_of_end key end =
-      let kept : is_kept marks key ≡ true = or_right (not (gone marks key)) _ (ap not end.unspent) in
-      node_kept s marks shown limits grown key end.birth end.is kept
+      node_kept s marks shown limits grown key end.birth end.is (or_right (not (gone marks key)) _ (ap not end.unspent))
 
   -- a node that a call names, and whose end is there, is there
   work_there : (client : ℕ) (reply : Reply) (call : Call) (key : NodeKey) (change : Node → Change) →
@@ -62,9 +61,7 @@ module _ (s : State) (marks : Timeline) (shown : IsAfter s marks) (limits : Boun
       at_node s.forest key change ≡ None → ⊥
   work_there client reply call key change answer stands is none =
       let end : HasEnd marks key = not_refused_end limits marks client call reply key answer stands is in
-      let some : at_node s.forest key change ≡ Some
-      (record { collection = end.birth.collection; change = change (node_after marks end.birth) }) =
-      ap (option_map (λ (n : Node). record { collection = n.collection; change = change n })) (node_of_end key end) in
+      let some = ap (option_map (λ (n : Node). record { collection = n.collection; change = change n })) (node_of_end key end) in
       no_work (sym none ∙ some)
 
   -- so is the collection of a buffer of which a handle is dropped
@@ -78,8 +75,7 @@ module _ (s : State) (marks : Timeline) (shown : IsAfter s marks) (limits : Boun
       let all : open_of marks client buffer strength ≤ open_total marks buffer strength =
       client-le-total marks (counted s.pool limits marks grown) client buffer strength (caller_joined limits marks client Reply.Done
       (Call.DropHandle buffer strength) answer refl) in
-      let kept : is_kept_collection marks buffer.collection ≡ true =
-      open_kept s.pool limits marks grown buffer strength (omega (arith, had, all)) in
+      let kept = open_kept s.pool limits marks grown buffer strength (omega (arith, had, all)) in
       let some : at_collection s.forest buffer.collection Change.Nothing ≡ Some
       (record { collection = buffer.collection; change = Change.Nothing }) =
       ap (option_map (λ (c : Collection). record { collection = buffer.collection; change = Change.Nothing }))
@@ -109,9 +105,8 @@ module _ (s : State) (marks : Timeline) (shown : IsAfter s marks) (limits : Boun
       let lost : Work = record { collection = end.birth.collection; change = Change.Loss key Cause.Lost } in
       elim (either_way (gone marks end.birth.node)) [
         | inl g ↦
-            let is : gone marks key ≡ true = ap (gone marks) (sym (birth_is marks key end.birth end.is).1) ∙ g in
             changes_none client Reply.Done (Call.Close key) answer refl (λ n. refl) (ap (λ (b : Bool). when (not b) (Loss key Cause.Lost))
-            is) refl
+            (ap (gone marks) (sym (birth_is marks key end.birth end.is).1) ∙ g)) refl
         | inr g ↦
             let some : loss_at s.forest key Cause.Lost ≡ Some lost =
             ap (option_and_then (λ (n : Node). cond n.gone None
@@ -126,8 +121,7 @@ module _ (s : State) (marks : Timeline) (shown : IsAfter s marks) (limits : Boun
       drop_at s buffer strength ≡ None → IsIdle marks client Reply.Done (Call.DropHandle buffer strength)
   idle_drop client buffer strength answer none = elim (stays s buffer strength none) [
     | inl more ↦
-        let same : open_total marks buffer strength ≡ total s.holds buffer strength =
-        ap (λ (h : HandleCounts). h.total buffer strength) (sym shown.handles) in
+        let same = ap (λ (h : HandleCounts). h.total buffer strength) (sym shown.handles) in
         record {
           bears_none = refl;
           says_nothing = λ n. refl;
@@ -166,8 +160,7 @@ module _ (s : State) (marks : Timeline) (shown : IsAfter s marks) (limits : Boun
         changes_none client (Reply.Misused m) call answer refl (said_misused call m)
         (own_misused marks call m ∙ ap (option_map (λ key. Loss key (Cause.Misused m))) e) (alike_misused call m)
     | inr some ↦
-        let same : at_node s.forest some.0 (λ n. Change.Loss some.0 (Cause.Misused m)) ≡ None =
-        sym (ap (option_and_then (λ key. at_node s.forest key (λ n. Change.Loss key (Cause.Misused m)))) some.1) ∙ none in
+        let same = sym (ap (option_and_then (λ key. at_node s.forest key (λ n. Change.Loss key (Cause.Misused m)))) some.1) ∙ none in
         absurd (work_there client (Reply.Misused m) call some.0 (λ n. Change.Loss some.0 (Cause.Misused m)) answer refl some.1 same)
   ]
 
@@ -197,10 +190,8 @@ module _ (s : State) (marks : Timeline) (shown : IsAfter s marks) (limits : Boun
       (work : Work) → at_node s.forest key (λ n. Change.Effect key effect) ≡ Some work →
       Starts s marks shown limits grown client reply call answer work
   starts_effect client reply call answer key effect is says no_loss none work e =
-      let f : IsFound s marks shown limits grown key (λ n. Change.Effect key effect) work =
-      at_found s marks shown limits grown key (λ n. Change.Effect key effect) work e in
-      let of : collection_of (Called client reply call ∷ marks) call reply ≡ Some f.birth.collection =
-      named_in s.pool limits marks grown client reply call answer f.birth f.there (is ∙ ap Some (sym f.is)) in
+      let f = at_found s marks shown limits grown key (λ n. Change.Effect key effect) work e in
+      let of = named_in s.pool limits marks grown client reply call answer f.birth f.there (is ∙ ap Some (sym f.is)) in
       subst (λ (w : Work). Starts s marks shown limits grown client reply call answer w) (sym f.work_is)
       (effect_starts s marks shown limits grown client reply call answer f.birth f.there of f.kept key effect says no_loss none)
 
@@ -210,14 +201,11 @@ module _ (s : State) (marks : Timeline) (shown : IsAfter s marks) (limits : Boun
       Starts s marks shown limits grown client Reply.Done (Call.Close key) answer work
   starts_close client key answer work e =
       let l : IsLosing s.forest key Cause.Lost work = losing s.forest key Cause.Lost work e in
-      let f : IsFound s marks shown limits grown key (λ n. Change.Loss key Cause.Lost) work =
-      at_found s marks shown limits grown key (λ n. Change.Loss key Cause.Lost) work l.work_at in
-      let of : collection_of (Called client Reply.Done (Call.Close key) ∷ marks) (Call.Close key) Reply.Done ≡ Some f.birth.collection =
-      named_in s.pool limits marks grown client Reply.Done (Call.Close key) answer f.birth f.there (ap Some (sym f.is)) in
+      let f = at_found s marks shown limits grown key (λ n. Change.Loss key Cause.Lost) work l.work_at in
+      let of = named_in s.pool limits marks grown client Reply.Done (Call.Close key) answer f.birth f.there (ap Some (sym f.is)) in
       let r = node_there s marks shown limits grown key l.node l.at in
       let here : gone marks key ≡ false = ap (gone marks) (sym r.2) ∙ (ap (λ (n : Node). n.gone) (sym r.4) ∙ l.here) in
-      let loss : own_loss marks (Call.Close key) Reply.Done ≡ Some (Loss f.birth.node Cause.Lost) =
-      ap (λ (b : Bool). when (not b) (Loss key Cause.Lost)) here ∙ ap (λ (k : NodeKey). Some (Loss k Cause.Lost)) (sym f.is) in
+      let loss = ap (λ (b : Bool). when (not b) (Loss key Cause.Lost)) here ∙ ap (λ (k : NodeKey). Some (Loss k Cause.Lost)) (sym f.is) in
       let is : work ≡ record { collection = f.birth.collection; change = Change.Loss f.birth.node Cause.Lost } =
       f.work_is ∙ ap (λ (k : NodeKey). record { collection = f.birth.collection; change = Change.Loss k Cause.Lost }) (sym f.is) in
       subst (λ (w : Work). Starts s marks shown limits grown client Reply.Done (Call.Close key) answer w) (sym is)
@@ -235,8 +223,7 @@ module _ (s : State) (marks : Timeline) (shown : IsAfter s marks) (limits : Boun
       (collection_at s.forest buffer.collection) work e in
       let kept : is_kept_collection marks buffer.collection ≡ true =
       (collection_there s marks shown limits grown buffer.collection t.0 t.1).0 in
-      let r : HasRoot (births marks) buffer.collection =
-      kept_root marks buffer.collection (whole s.pool limits marks grown).together kept in
+      let r = kept_root marks buffer.collection (whole s.pool limits marks grown).together kept in
       subst (λ (w : Work). Starts s marks shown limits grown client Reply.Done call answer w) (ap (λ (id : ℕ).
       record { collection = id; change = Change.Nothing }) r.ours ∙ t.2)
       (nothing_starts s marks shown limits grown client Reply.Done call answer r.root r.there (ap Some (sym r.ours))
@@ -271,19 +258,15 @@ module _ (s : State) (marks : Timeline) (shown : IsAfter s marks) (limits : Boun
   starts_misused client call m answer work e =
       let t = and_then-Some (λ key. at_node s.forest key (λ n. Change.Loss key (Cause.Misused m))) (key_of call) work e in
       let key : NodeKey = t.0 in
-      let f : IsFound s marks shown limits grown key (λ n. Change.Loss key (Cause.Misused m)) work =
-      at_found s marks shown limits grown key (λ n. Change.Loss key (Cause.Misused m)) work t.2 in
+      let f = at_found s marks shown limits grown key (λ n. Change.Loss key (Cause.Misused m)) work t.2 in
       let names : key_of call ≡ Some f.birth.node = t.1 ∙ ap Some (sym f.is) in
-      let of : collection_of (Called client (Reply.Misused m) call ∷ marks) call (Reply.Misused m) ≡ Some f.birth.collection =
-      named_in s.pool limits marks grown client (Reply.Misused m) call answer f.birth f.there names in
-      let here : gone marks f.birth.node ≡ false = misused_here s.pool limits marks grown client call m f.birth.node answer names in
-      let loss : own_loss marks call (Reply.Misused m) ≡ Some (Loss f.birth.node (Cause.Misused m)) =
-      own_misused marks call m ∙ ap (option_map (λ k. Loss k (Cause.Misused m))) names in
+      let of = named_in s.pool limits marks grown client (Reply.Misused m) call answer f.birth f.there names in
+      let loss = own_misused marks call m ∙ ap (option_map (λ k. Loss k (Cause.Misused m))) names in
       let is : work ≡ record { collection = f.birth.collection; change = Change.Loss f.birth.node (Cause.Misused m) } =
       f.work_is ∙ ap (λ (k : NodeKey). record { collection = f.birth.collection; change = Change.Loss k (Cause.Misused m) }) (sym f.is) in
       subst (λ (w : Work). Starts s marks shown limits grown client (Reply.Misused m) call answer w) (sym is)
       (loss_starts s marks shown limits grown client (Reply.Misused m) call answer f.birth f.there of f.kept refl (said_misused call m)
-      (Cause.Misused m) here loss)
+      (Cause.Misused m) (misused_here s.pool limits marks grown client call m f.birth.node answer names) loss)
 
   -- each event that is work begins so
   pub starts : (client : ℕ) (reply : Reply) (call : Call) (answer : IsAnswer limits (readings marks) client call reply) (work : Work) →

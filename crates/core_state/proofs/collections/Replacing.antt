@@ -1,9 +1,15 @@
--- Collections by their ids: one is put in its place, and some are forgotten.
-use Rattle.core_state.proofs.Common.{Bool, Collection, In-append, List, [], ap, arith, cond, either_way, eq-eqb, false, false_if, filter}
-use Rattle.core_state.proofs.Common.{inl, inr, lt-ltb, ltb-true, map, nat_lt, put, refl, sym, true, ℕ, ◌&&◌, ◌++◌, ◌<◌, ◌==◌, ◌||◌, ◌∙◌}
-use Rattle.core_state.proofs.Common.{◌∷◌, ◌≡◌}
+-- Collections by their ids: one is put in its place, and some are forgotten. The ids of collections, the earliest first: they rise, and a
+-- new one comes last.
+use Rattle.core_state.proofs.Common.{Allocates, Answers, Birth, Bool, Bound, Called, Collection, Ends, Grows, In-append, In-filter}
+use Rattle.core_state.proofs.Common.{In-filter-back, In-map, In-map-back, In-reverse, In-reverse-back, IsWhole, List, Loses, NodeKey}
+use Rattle.core_state.proofs.Common.{None, Option, Some, Stays, Timeline, [], ap, arith, birth_at, births, comes, cond, cons_option}
+use Rattle.core_state.proofs.Common.{either_way, eq-eqb, events, false, false_if, filter, filter-append, inl, inr, is_kept_collection}
+use Rattle.core_state.proofs.Common.{is_none, kept_ids, lt-ltb, ltb-true, map, map-append, nat_lt, none_if, ordered, put, refl, reverse}
+use Rattle.core_state.proofs.Common.{reverse-append, subst, sym, true, ℕ, ◌&&◌, ◌++◌, ◌+◌, ◌<◌, ◌==◌, ◌||◌, ◌∙◌, ◌∷◌, ◌≡◌, ◌≤◌}
 use Rattle.sm_names.proofs.ListLaws.{In}
-use Rattle.forest_store.proofs.lists.StableSort.{other_number, other_greater}
+use Rattle.forest_store.proofs.lists.StableSort.{other_greater, other_number}
+use Rattle.std.proofs.lemmas.List.{append-nil}
+use Rattle.core_state.proofs.collections.Roots.{HasRoot, has_root}
 
 -- ---- numbers in order
 
@@ -51,9 +57,7 @@ map-asked f g p q (x ∷ xs) asks makes =
     let rest : map f (filter p xs) ≡ map g (filter q xs) = map-asked f g p q xs (λ y on. asks y (inr on)) (λ y on. makes y (inr on)) in
     elim (either_way (q x)) [
       | inl e ↦
-          let here : p x ≡ true = asks x (inl refl) ∙ e in
-          let made : f x ≡ g x = makes x (inl refl) e in
-          rw (here, e) (λ i. made i ∷ rest i)
+          rw (asks x (inl refl) ∙ e, e) (λ i. (makes x (inl refl) e) i ∷ rest i)
       | inr e ↦ let here : p x ≡ false = asks x (inl refl) ∙ e in rw (here, e) rest
     ]
 
@@ -72,9 +76,8 @@ module _ (f : ℕ → Collection) (named : (d : ℕ) → (f d).id ≡ d) (new : 
       elim (either_way (kept d)) [
         | inl e ↦
             let h : new.id < d = above d (inl refl) in
-            let other : ((f d).id == new.id) ≡ false = ap (λ (n : ℕ). n == new.id) (named d) ∙ other_greater d new.id h in
             let before : nat_lt new.id (f d).id ≡ true = ap (λ (n : ℕ). nat_lt new.id n) (named d) ∙ lt-ltb new.id d h in
-            rw (e, other, before) refl
+            rw (e, ap (λ (n : ℕ). n == new.id) (named d) ∙ other_greater d new.id h, before) refl
         | inr e ↦ rw e (put-first kept ds (λ k on. above k (inr on)))
       ]
 
@@ -95,8 +98,7 @@ module _ (f : ℕ → Collection) (named : (d : ℕ) → (f d).id ≡ d) (new : 
       let rest : map f (filter kept ds) ≡ map with_new (filter (λ k. k == new.id || kept k) ds) = others-stay kept ds above in
       elim (either_way (kept d)) [
         | inl e ↦
-            let same : ((f d).id == new.id) ≡ true = ap (λ (n : ℕ). n == new.id) (named d) ∙ here in
-            rw (here, e, same, here) (ap (λ (l : List Collection). new ∷ l) rest)
+            rw (here, e, ap (λ (n : ℕ). n == new.id) (named d) ∙ here, here) (ap (λ (l : List Collection). new ∷ l) rest)
         | inr e ↦ rw (here, e, here) (put-first kept ds above ∙ ap (λ (l : List Collection). new ∷ l) rest)
       ]
   put-map kept (d ∷ ds) r (inr on) =
@@ -105,8 +107,82 @@ module _ (f : ℕ → Collection) (named : (d : ℕ) → (f d).id ≡ d) (new : 
       let rest : put new (map f (filter kept ds)) ≡ map with_new (filter (λ k. k == new.id || kept k) ds) = put-map kept ds r.1 on in
       elim (either_way (kept d)) [
         | inl e ↦
-            let same : ((f d).id == new.id) ≡ false = ap (λ (n : ℕ). n == new.id) (named d) ∙ other in
             let not_before : nat_lt new.id (f d).id ≡ false = ap (λ (n : ℕ). nat_lt new.id n) (named d) ∙ not_below new.id d h in
-            rw (other, e, same, not_before, other) (ap (λ (l : List Collection). f d ∷ l) rest)
+            rw (other, e, ap (λ (n : ℕ). n == new.id) (named d) ∙ other, not_before, other) (ap (λ (l : List Collection). f d ∷ l) rest)
         | inr e ↦ rw (other, e) rest
       ]
+
+-- ---- the ids of collections, the earliest first: they rise, and a new one comes last
+
+-- the birth is of a root
+abbrev pub is_root_birth : Birth → Bool
+is_root_birth b = is_none b.parent
+
+-- the ids of all collections, the earliest first
+abbrev pub ids : List Birth → List ℕ
+ids bs = map (λ (b : Birth). b.collection) (filter is_root_birth (reverse bs))
+
+-- those that are kept
+pub kept_are : (marks : Timeline) → kept_ids marks ≡ filter (is_kept_collection marks) (ids (births marks))
+kept_are marks = sym (filter-map_asked (is_kept_collection marks) (λ (b : Birth). b.collection) is_root_birth (reverse (births marks)))
+
+-- one more birth makes one more id, if it is of a root
+ids-push : (b : Birth) (bs : List Birth) → ids (b ∷ bs) ≡ ids bs ++ map (λ (c : Birth). c.collection) (filter is_root_birth (b ∷ []))
+ids-push b bs =
+    ap (λ (l : List Birth). map (λ (c : Birth). c.collection) (filter is_root_birth l)) (reverse-append (b ∷ []) bs)
+    ∙ (ap (map (λ (c : Birth). c.collection)) (filter-append is_root_birth (reverse bs) (b ∷ []))
+    ∙ map-append (λ (c : Birth). c.collection) (filter is_root_birth (reverse bs)) (filter is_root_birth (b ∷ [])))
+
+-- a root's comes last
+pub ids-root : (b : Birth) (bs : List Birth) → b.parent ≡ None → ids (b ∷ bs) ≡ ids bs ++ b.collection ∷ []
+ids-root b bs root = ids-push b bs ∙ rw root refl
+
+-- a child makes none
+pub ids-child : (b : Birth) (bs : List Birth) (p : NodeKey) → b.parent ≡ Some p → ids (b ∷ bs) ≡ ids bs
+ids-child b bs p up = ids-push b bs ∙ rw up (append-nil (ids bs))
+
+-- an id is that of a root
+pub id_root : (bs : List Birth) (n : ℕ) → In n (ids bs) → (b : Birth) × In b bs × (b.parent ≡ None) × (b.collection ≡ n)
+id_root bs n on =
+    let m = In-map (λ (b : Birth). b.collection) (filter is_root_birth (reverse bs)) n on in
+    let f = In-filter is_root_birth (reverse bs) m.0 m.1 in
+    (m.0, In-reverse bs m.0 f.0, none_if m.0.parent f.1, sym m.2)
+
+-- and a root has its id among them
+pub root_id : (bs : List Birth) (b : Birth) → In b bs → b.parent ≡ None → In b.collection (ids bs)
+root_id bs b on root =
+    In-map-back (λ (c : Birth). c.collection) (filter is_root_birth (reverse bs)) b (In-filter-back is_root_birth (reverse bs) b
+    (In-reverse-back bs b on) (ap is_none root))
+
+-- so has each node its collection's
+pub node_id : (marks : Timeline) → IsWhole marks → (b : Birth) → In b (births marks) → In b.collection (ids (births marks))
+node_id marks w b on =
+    let r : HasRoot (births marks) b.collection = has_root (births marks) w.together b on in
+    subst (λ (n : ℕ). In n (ids (births marks))) r.ours (root_id (births marks) r.root r.there r.is_root)
+
+-- ids rise
+pub ids_rise : (pool : ℕ) (limits : Bound) (marks : Timeline) → Grows pool limits [] marks → IsRising (ids (births marks))
+ids_rise pool limits _ Stays = tt
+ids_rise pool limits _ (Answers before client reply call g answer) =
+    from (ids_rise pool limits before g) (birth_at (events before + 1) (Called client reply call)) refl
+  where
+    -- since a birth has the number of an event that was
+    early : (n : ℕ) → In n (ids (births before)) → n ≤ events before
+    early n on =
+        let r = id_root (births before) n on in
+        let x : r.0.collection ≤ events before = (ordered pool limits before g).early r.0 r.1 in
+        omega (arith, x, r.3)
+
+    -- by cases: a new root has the newest id, and a child has the id of its parent
+    from : IsRising (ids (births before)) → (o : Option Birth) → birth_at (events before + 1) (Called client reply call) ≡ o →
+        IsRising (ids (cons_option o (births before)))
+    from rise None e = rise
+    from rise (Some b) e = elim (comes limits before client (events before + 1) reply call b answer e).from [
+      | inl r ↦
+          rw (ids-root b (births before) r.0) (rising-push (ids (births before)) b.collection rise (λ n on. let x : n ≤ events before =
+          early n on in omega (arith, r.1, x)))
+      | inr r ↦ rw (ids-child b (births before) r.0.node r.2) rise
+    ]
+ids_rise pool limits _ (Loses before origin cause g born) = ids_rise pool limits before g
+ids_rise pool limits _ (Allocates before collection head g e) = ids_rise pool limits before g
+ids_rise pool limits _ (Ends before collection top g e) = ids_rise pool limits before g

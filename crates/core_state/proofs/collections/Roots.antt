@@ -100,8 +100,7 @@ kept_root marks collection together kept =
     elim (either_way (list_any (λ (b : Birth). b.collection == collection && is_kept marks b.node) (births marks))) [
       | inl e ↦
           let s = In-list_any (λ (b : Birth). b.collection == collection && is_kept marks b.node) (births marks) e in
-          let ours : s.0.collection ≡ collection =
-          eqb-true s.0.collection collection (and_left (s.0.collection == collection) (is_kept marks s.0.node) s.2) in
+          let ours = eqb-true s.0.collection collection (and_left (s.0.collection == collection) (is_kept marks s.0.node) s.2) in
           subst (HasRoot (births marks)) ours (has_root (births marks) together s.0 s.1)
       | inr e ↦
           let some : not (left marks collection == 0) ≡ true = rw e at kept in
@@ -115,9 +114,8 @@ times_only : (p : Birth → Bool) (bs : List Birth) (b : Birth) → AreSound bs 
     c ≡ b) → times p bs ≡ 1
 times_only p [] b sound on is only = absurd on
 times_only p (c ∷ older) b sound (inl here) is only =
-    let e : p c ≡ true = ap p (sym here) ∙ is in
     let none : times p older ≡ 0 = times-zero p older (λ d there. fails d there (either_way (p d))) in
-    rw (e, none) refl
+    rw (ap p (sym here) ∙ is, none) refl
   where
     -- since a second one that passes would be the newest node again
     fails : (d : Birth) → In d older → ((p d ≡ true) ⊎ (p d ≡ false)) → p d ≡ false
@@ -148,18 +146,15 @@ module _ (pool : ℕ) (limits : Bound) (marks : Timeline) (grown : Grows pool li
       times_only (roots_it collection) (births marks) r.root o.sound r.there is
       (λ c on h.
       let first : (is_none c.parent && is_kept_collection marks c.collection) ≡ true = and_left _ (c.collection == collection) h in
-      let ours : c.collection ≡ collection =
-      eqb-true c.collection collection (and_right (is_none c.parent && is_kept_collection marks c.collection) _ h) in
+      let ours = eqb-true c.collection collection (and_right (is_none c.parent && is_kept_collection marks c.collection) _ h) in
       o.roots c r.root on r.there (none_if c.parent (and_left (is_none c.parent) _ first)) r.is_root (ours ∙ sym r.ours))
   roots_once collection false lost = times-zero (roots_it collection) (births marks) (λ c on. fails c (either_way (roots_it collection c)))
     where
       fails : (c : Birth) → ((roots_it collection c ≡ true) ⊎ (roots_it collection c ≡ false)) → roots_it collection c ≡ false
       fails c (inr e) = e
       fails c (inl e) =
-          let ours : c.collection ≡ collection =
-          eqb-true c.collection collection (and_right (is_none c.parent && is_kept_collection marks c.collection) _ e) in
-          let kept : is_kept_collection marks c.collection ≡ true =
-          and_right (is_none c.parent) _ (and_left (is_none c.parent && is_kept_collection marks c.collection) _ e) in
+          let ours = eqb-true c.collection collection (and_right (is_none c.parent && is_kept_collection marks c.collection) _ e) in
+          let kept = and_right (is_none c.parent) _ (and_left (is_none c.parent && is_kept_collection marks c.collection) _ e) in
           both_ways (is_kept_collection marks collection) (ap (is_kept_collection marks) (sym ours) ∙ kept) lost
 
   -- a collection stands once among the kept ones if it is kept, else not at all

@@ -9,12 +9,11 @@ use Rattle.sm_names.specs.Ends.{spends}
 use Rattle.sm_names.proofs.ListLaws.{In}
 use Rattle.forest_store.specs.Forest.{is_left}
 use Rattle.core_state.proofs.ends.NotRead.{placed_node, placed_in}
-use Rattle.core_state.proofs.collections.Ids.{ids, kept_are}
-use Rattle.core_state.proofs.ends.Forgotten.{left_after}
+use Rattle.core_state.proofs.collections.Replacing.{filter-map_asked, ids, kept_are, map-asked}
+use Rattle.core_state.proofs.ends.Transfers.{left_after}
 use Rattle.core_state.proofs.lists.Maps.{filter-filter}
 use Rattle.core_state.proofs.theorem.Follows.{Matches}
 use Rattle.core_state.proofs.views.Nodes.{not_unkept}
-use Rattle.core_state.proofs.collections.Replacing.{filter-map_asked, map-asked}
 use Rattle.forest_store.proofs.lists.Elements.{map-same}
 
 -- ---- an end elsewhere
@@ -91,9 +90,7 @@ left_finished o c h =
 over_mark : (marks : Timeline) (mark : Mark) (node : NodeKey) → is_kept marks node ≡ false → is_kept (mark ∷ marks) node ≡ false
 over_mark marks mark node over =
     let p = parts (gone marks node) (spent marks node) over in
-    let g : gone (mark ∷ marks) node ≡ true = gone_stays mark marks node p.0 in
-    let t : spent (mark ∷ marks) node ≡ true = or_right (spends node mark) (spent marks node) p.1 in
-    rw (g, t) refl
+    rw (gone_stays mark marks node p.0, or_right (spends node mark) (spent marks node) p.1) refl
   where
     -- by cases on both switches
     parts : (g t : Bool) → (not g || not t) ≡ false → (g ≡ true) × (t ≡ true)
@@ -134,10 +131,8 @@ finished_is pool limits marks later g others o c m held = λ i. record {
           | inl e ↦ rw e refl
           | inr e ↦
               let key : n.key ≡ b.0.node = ap (λ (x : Node). x.key) b.2 in
-              let over : is_kept later b.0.node ≡ false =
-              unkept_stays pool limits marks later g b.0.node (ap (is_kept marks) (sym key) ∙ e) in
-              let now : not (is_unkept n) ≡ false = ap (λ (x : Node). not (is_unkept x)) b.2 ∙ (not_unkept later b.0 ∙ over) in
-              rw (e, now) refl
+              let over = unkept_stays pool limits marks later g b.0.node (ap (is_kept marks) (sym key) ∙ e) in
+              rw (e, ap (λ (x : Node). not (is_unkept x)) b.2 ∙ (not_unkept later b.0 ∙ over)) refl
         ]
 
     -- by filtering twice, which is filtering by both tests

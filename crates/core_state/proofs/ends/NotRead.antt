@@ -37,8 +37,7 @@ module _ (place : NodeKey → End → End) where
   -- a node
   member_placed : (ns : List Node) (n : Node) → member_of (placed_nodes ns) (placed_node n) ≡ member_of ns n
   member_placed ns n =
-      let line : above_among (reverse (placed_nodes ns)) n.key ≡ above_among (reverse ns) n.key =
-      ap (λ (l : List Node). above_among l n.key) (sym (map-reverse placed_node ns)) ∙ above_placed (reverse ns) n.key in
+      let line = ap (λ (l : List Node). above_among l n.key) (sym (map-reverse placed_node ns)) ∙ above_placed (reverse ns) n.key in
       λ i. record (member_of ns n) { above = line i }
 
   -- the nodes that are not gone

@@ -83,8 +83,7 @@ module _ (f : Forest) (id : ℕ) (leaving : Option NodeKey) (amid : IsAmid f id 
       let from = In-map (spent_in_one leaving) f.collections c there in
       let elsewhere : (from.0.id == id) ≡ false =
       (ap (λ (n : ℕ). n == id) (sym (ap (λ (x : Collection). x.id) from.2 ∙ spent_id leaving from.0))) ∙ apart in
-      let same : c ≡ from.0 = from.2 ∙ untouched leaving refl from.0 from.1 elsewhere in
-      subst IsTidy (sym same) (amid.tidy from.0 from.1 elsewhere)
+      subst IsTidy (sym (from.2 ∙ untouched leaving refl from.0 from.1 elsewhere)) (amid.tidy from.0 from.1 elsewhere)
 
   -- so it is enough to look at that one
   pub forgets_all : without_unkept_in id (with_place (spent_place leaving) f).collections ≡ without_unkept (with_place (spent_place leaving)

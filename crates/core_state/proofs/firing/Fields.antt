@@ -2,8 +2,8 @@
 use Rattle.core_state.proofs.Common.{Bool, Bound, Call, Cell, Condition, GainsTracker, IfSome, In-all, In-append, Node, None, Option}
 use Rattle.core_state.proofs.Common.{Refusal, Reply, Some, State, TrackerTable, Waiting, World, [], all-In, answer, ap, arith, closing}
 use Rattle.core_state.proofs.Common.{effect, false, false≢true, holds, if◌then◌else◌, inl, inr, is_due, is_some, leb-false, length}
-use Rattle.core_state.proofs.Common.{looked_in, makes_tracker, map-Some, nat_le, no_key, node_at, readings_of, refl, subst, sym}
-use Rattle.core_state.proofs.Common.{took_effect_all, tracker_by, true, ℕ, ◌+◌, ◌<◌, ◌∙◌, ◌∷◌, ◌≡◌, ◌≤◌, ◌⊎◌}
+use Rattle.core_state.proofs.Common.{looked_in, makes_tracker, map-Some, no_key, node_at, readings_of, refl, subst, sym, took_effect_all}
+use Rattle.core_state.proofs.Common.{tracker_by, true, ℕ, ◌+◌, ◌<◌, ◌∙◌, ◌∷◌, ◌≡◌, ◌≤◌, ◌⊎◌}
 use Rattle.std.specs.List.{All}
 use Rattle.sm_names.proofs.ListLaws.{In}
 use Rattle.event_laws.proofs.FreeEndLaws.{passed}
@@ -22,11 +22,9 @@ module _ (limits : Bound) (s : State) (client : ℕ) where
       Reply.Tracker id ≡ answer limits (readings_of s) client no_key call → (t : Waiting) → id ≡ t.id → IsMade limits s t
   called_made call id makes going tells told t is =
       let all = took_effect_all limits (readings_of s) client no_key call (Reply.Tracker id) refl going told in
-      let fits : nat_le limits.trackers (length s.trackers.unfired) ≡ false =
-      passed _ Refusal.TrackersFull (rw makes at all.trackers_fit) in
       record {
         number = sym is ∙ id_is id (s.events + 1) (all.answered ∙ tells);
-        room = leb-false limits.trackers (length s.trackers.unfired) fits;
+        room = leb-false limits.trackers (length s.trackers.unfired) (passed _ Refusal.TrackersFull (rw makes at all.trackers_fit));
       }
     where
       id_is : (a b : ℕ) → Reply.Tracker a ≡ Reply.Tracker b → a ≡ b
@@ -70,9 +68,8 @@ module _ (s : State) (call : Call) (asked : Reply) (limits : Bound) (client : �
       by : (o : Option Waiting) → tracking ≡ o → IfSome o (λ t. All (λ (c : Cell). c.id < t.id) s.trackers.cells)
       by None is = tt
       by (Some t) is = all-In (λ (c : Cell). c.id < t.id) s.trackers.cells (λ c on.
-          let below : c.id ≤ s.events = In-all (λ (d : Cell). d.id ≤ s.events) s.trackers.cells numbered c on in
           let number : t.id ≡ s.events + 1 = (tracked told tracks t is).number in
-          omega (arith, below, number))
+          omega (arith, In-all (λ (d : Cell). d.id ≤ s.events) s.trackers.cells numbered c on, number))
 
   -- one more may wait
   pub attached_fits : IsTold → Tracks → s.trackers.limit ≡ limits.trackers →

@@ -12,8 +12,7 @@ use Rattle.core_state.specs.Steps.{leaves_tracker_room}
 use Rattle.core_state.specs.Whole.{IsSound}
 use Rattle.core_state.proofs.forced.Known.{IsKnown}
 use Rattle.core_state.proofs.collections.ById.{found_by_id}
-use Rattle.core_state.proofs.forced.Forest.{node_with_key}
-use Rattle.core_state.proofs.forced.Whole.{well}
+use Rattle.core_state.proofs.forced.Forest.{node_with_key, well}
 
 -- ---- the key of a new node
 
@@ -93,8 +92,7 @@ named_node f sound id key m n at ours n_in is =
     let c = or_new_in f id n n_in in
     let d = node_with_key f key m at in
     let d_id : d.0.id ≡ id = sym (sound.fit d.0 d.1 m d.2).collection ∙ ours in
-    let same : Some c.0 ≡ Some d.0 =
-    sym (found_by_id f.collections c.0 id sound.rising c.1 c.3) ∙ found_by_id f.collections d.0 id sound.rising d.1 d_id in
+    let same = sym (found_by_id f.collections c.0 id sound.rising c.1 c.3) ∙ found_by_id f.collections d.0 id sound.rising d.1 d_id in
     let one : c.0 ≡ d.0 = cc in
     sound.once d.0 d.1 n m (subst (λ (x : Collection). In n x.nodes) one c.2) d.2 (is ∙ sym d.3)
 
@@ -114,9 +112,7 @@ tracker_room f sound id (Change.Effect key effect) may =
     small n n_in is same None at there = cc
     small n n_in is same (Some m) at there =
         let ours : m.collection ≡ id = eqb-true m.collection id (and_left (m.collection == id) (not m.gone) there) in
-        let it : n ≡ m = named_node f sound id key m n at ours n_in (sym same) in
-        let few = may.trackers key m (ap (Change.Effect key) is) at in
-        rw it (grind (arith, few))
+        rw (named_node f sound id key m n at ours n_in (sym same)) (grind (arith, may.trackers key m (ap (Change.Effect key) is) at))
 
     -- by cases: the effect is on this node, which has room, or on another
     tracked : (n : Node) → In n (collection_or_new f id).nodes → effect ≡ Effect.Tracked → has_tracker_room key Effect.Tracked n ≡ true

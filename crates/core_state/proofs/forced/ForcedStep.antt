@@ -13,7 +13,7 @@ use Rattle.history_laws.proofs.HeldLaws.{not_turned}
 use Rattle.sm_names.proofs.ListLaws.{In}
 use Rattle.history_laws.proofs.ForgetLaws.{asked-left}
 use Rattle.forest_store.specs.Settling.{made}
-use Rattle.core_state.proofs.collections.MarksApart.{IsIn, is_beside, beside_apart, laid_in}
+use Rattle.core_state.proofs.collections.Pages.{IsIn, beside_apart, is_beside, laid_in}
 use Rattle.core_state.proofs.theorem.Follows.{Matches, members_match, pages_match}
 use Rattle.core_state.proofs.nodes.Members.{node_found}
 use Rattle.core_state.proofs.nodes.Marks.{keeps_on, nodes_lost, nodes_allocated, nodes_ended}
@@ -106,8 +106,7 @@ module _ (pool : ℕ) (limits : Bound) (keep : NodeKey → Bool) (marks : Timeli
   step_attached b on ours child free step =
       let found : birth_of marks b.node ≡ Some b = find_birth (births marks) b w.sound on in
       let given : buffers_of (Allocated b.node ∷ marks) c.id ≡ buffers_of marks c.id = rw (found, child) refl in
-      let later : Collection = with_nodes (after_allocation b.node) c in
-      let matches : Matches pool keep (Allocated b.node ∷ marks) others later = record {
+      let matches : Matches pool keep (Allocated b.node ∷ marks) others (with_nodes (after_allocation b.node) c) = record {
         keeps = keeps_on keep marks (Allocated b.node) m.keeps;
         nodes = ap (after_allocation b.node) m.nodes ∙ sym (nodes_allocated keep marks c.id b.node);
         buffers = m.buffers ∙ sym given;
@@ -116,8 +115,7 @@ module _ (pool : ℕ) (limits : Bound) (keep : NodeKey → Bool) (marks : Timeli
         held = held_match pool limits marks (Allocated b.node) grown step c.id (rw (found, child) refl) c.held m.held;
         beside = beside_on (Allocated b.node) (of_ours marks c.id w b on ours);
       } in
-      let is : is_root_of c b.node ≡ false = root_as b on ours free ∙ child in
-      rw is matches
+      rw (root_as b on ours free ∙ child) matches
 
   -- the allocation of the root unit
   module _ (b : Birth) (on : In b (births marks)) (ours : b.collection == c.id ≡ true) (root : b.parent ≡ None)
@@ -157,8 +155,7 @@ module _ (pool : ℕ) (limits : Bound) (keep : NodeKey → Bool) (marks : Timeli
     -- what the state lays out is what the history does
     laid_same : layout pool c.id (asked (members_of c.nodes)) (pages_in c ++ others) ≡ laid
     laid_same =
-        let is : asked (members_of c.nodes) ≡ want =
-        ap asked (members_match pool limits keep marks others c grown m) ∙ asked-left (members marks c.id) in
+        let is = ap asked (members_match pool limits keep marks others c grown m) ∙ asked-left (members marks c.id) in
         let room : places pool (pages_of want.size) want.count (pages_in c ++ others) ≡ places pool (pages_of want.size) want.count out =
         sym (places_same pool (pages_of want.size) want.count out (pages_in c ++ others) (pages_match pool limits keep marks others c grown
         m not_given)) in
@@ -196,8 +193,7 @@ module _ (pool : ℕ) (limits : Bound) (keep : NodeKey → Bool) (marks : Timeli
     held_first =
         let now : HeldBuffer → Bool = λ h. not (home (Allocated b.node ∷ marks) h.buffer) in
         let mine : HeldBuffer → Bool = λ h. h.buffer.collection == c.id in
-        let parts : filter mine (laid ++ placed pool marks) ≡ laid ++ [] =
-        filter-append mine laid (placed pool marks) ∙ (λ i. filter-all mine laid laid_own i ++ placed_none i) in
+        let parts = filter-append mine laid (placed pool marks) ∙ (λ i. filter-all mine laid laid_own i ++ placed_none i) in
         ap (filter now) (sym parts) ∙ filter-swap now mine (laid ++ placed pool marks)
 
     -- the allocation
@@ -209,8 +205,7 @@ module _ (pool : ℕ) (limits : Bound) (keep : NodeKey → Bool) (marks : Timeli
           buffers = Some (asked (members_of c.nodes));
           held = layout pool c.id (asked (members_of c.nodes)) (pages_in c ++ others) ++ c.held;
         } in
-        let is : asked (members_of c.nodes) ≡ want =
-        ap asked (members_match pool limits keep marks others c grown m) ∙ asked-left (members marks c.id) in
+        let is = ap asked (members_match pool limits keep marks others c grown m) ∙ asked-left (members marks c.id) in
         let matches : Matches pool keep (Allocated b.node ∷ marks) others first = record {
           keeps = keeps_on keep marks (Allocated b.node) m.keeps;
           nodes = ap (after_allocation b.node) m.nodes ∙ sym (nodes_allocated keep marks c.id b.node);
@@ -220,8 +215,7 @@ module _ (pool : ℕ) (limits : Bound) (keep : NodeKey → Bool) (marks : Timeli
           held = ap (still_out (Allocated b.node ∷ marks)) all_laid ∙ held_first;
           beside = beside_on (Allocated b.node) (of_ours marks c.id w b on ours);
         } in
-        let top : is_root_of c b.node ≡ true = root_as b on ours free ∙ ap is_none root in
-        rw top matches
+        rw (root_as b on ours free ∙ ap is_none root) matches
       where
         of_laid : (h : HeldBuffer) → In h (laid ++ []) → (h.buffer.collection == c.id) ≡ true
         of_laid h there = elim (In-append laid [] h there) [ inl new ↦ laid_own h new | inr none ↦ absurd none ]

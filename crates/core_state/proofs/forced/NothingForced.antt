@@ -8,14 +8,13 @@ use Rattle.core_state.proofs.Common.{suc, sym, true, whole, with_place, without_
 use Rattle.std.proofs.lemmas.Bool.{not-false}
 use Rattle.forest_store.specs.Forest.{is_left}
 use Rattle.forest_store.specs.Settling.{buffer_names, standing}
-use Rattle.core_state.proofs.forced.CallStep.{IsIdle, births_idle, follows_idle, held_idle}
+use Rattle.core_state.proofs.forced.Starting.{IsIdle, births_idle, follows, follows_idle, held_idle}
 use Rattle.core_state.proofs.ends.NotRead.{placed_in, standing_placed}
 use Rattle.core_state.proofs.ends.Finishing.{finished, ComesTo, finished_is, finished_kept, left_finished}
-use Rattle.core_state.proofs.collections.Ids.{ids, kept_are}
-use Rattle.core_state.proofs.ends.Forgotten.{left_after, some_more}
+use Rattle.core_state.proofs.collections.Replacing.{ids, kept_are}
+use Rattle.core_state.proofs.ends.Transfers.{left_after, some_more}
 use Rattle.core_state.proofs.theorem.Follows.{Matches, forced_matches}
 use Rattle.core_state.proofs.forced.Settled.{settled_at_rest}
-use Rattle.core_state.proofs.forced.Starting.{follows}
 
 -- some handles are open exactly if their count is not 0
 some_is : (n : ℕ) → nat_lt 0 n ≡ not (n == 0)
@@ -94,8 +93,7 @@ module _ (s : State) (marks : Timeline) (shown : IsAfter s marks) (limits : Boun
         | inl e ↦ inl (e, is)
         | inr e ↦
             let left : is_left c ≡ true = not-false (is_left c) (left_after s.pool limits marks grown id ∙ e) in
-            let over : is_left (collection_after s.pool called id) ≡ true = ap is_left (sym is) ∙ left_finished moved c left in
-            inr (e, sym (left_after s.pool limits called grown_called id) ∙ ap not over)
+            inr (e, sym (left_after s.pool limits called grown_called id) ∙ ap not (ap is_left (sym is) ∙ left_finished moved c left))
       ]
 
   -- so what is left is what the marks keep

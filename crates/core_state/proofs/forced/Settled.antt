@@ -47,8 +47,7 @@ module _ (pool : ℕ) (limits : Bound) (handles : Handles) (keep : NodeKey → B
     grown = grown;
   }
   settles_match marks c _ grown counts m (ForcesIn _ after mark some next) =
-      let forces : next_forced pool c.id marks ≡ Some mark =
-      sym (forced_matches pool limits keep marks others c grown m handles counts) ∙ some in
+      let forces = sym (forced_matches pool limits keep marks others c grown m handles counts) ∙ some in
       let r : Comes pool limits handles keep (mark ∷ marks) others (made pool others mark c).id after =
       settles_match (mark ∷ marks) (made pool others mark c) after (grows_forced pool limits [] c.id marks mark grown forces)
       (counts_on handles marks mark (forced_no_event pool c.id marks mark forces) counts)
@@ -77,11 +76,9 @@ pub settled_matches : (pool : ℕ) (limits : Bound) (handles : Handles) (keep : 
     Grows pool limits [] marks → Counts handles marks → Matches pool keep marks others c → SettlesIn pool handles others c after →
     IsSettled pool limits handles keep marks others c.id after
 settled_matches pool limits handles keep marks others c after grown counts m s =
-    let r : Comes pool limits handles keep marks others c.id after =
-    settles_match pool limits handles keep others marks c after grown counts m s in
+    let r = settles_match pool limits handles keep others marks c after grown counts m s in
     let w : IsWhole marks = whole pool limits marks grown in
-    let is : r.later ≡ settled pool c.id marks =
-    Settles-one pool c.id marks r.later (settled pool c.id marks) r.settles (settled_rests pool c.id marks w.sound).1 in
+    let is = Settles-one pool c.id marks r.later (settled pool c.id marks) r.settles (settled_rests pool c.id marks w.sound).1 in
     record {
       same_id = r.same_id;
       matches = subst (λ (t : Timeline). Matches pool keep t others after) is r.matches;
@@ -103,8 +100,7 @@ module _ (pool : ℕ) (limits : Bound) (handles : Handles) (keep : NodeKey → B
   home_same : (h : HeldBuffer) → In h c.held → is_home_in handles c h.buffer ≡ home marks h.buffer
   home_same h on =
       let mine : h.buffer.collection ≡ c.id = m.own h on in
-      let given : is_some (buffers_of marks h.buffer.collection) ≡ true =
-      ap (λ (k : ℕ). is_some (buffers_of marks k)) mine ∙ (ap is_some (sym m.buffers) ∙ there c.buffers refl) in
+      let given = ap (λ (k : ℕ). is_some (buffers_of marks k)) mine ∙ (ap is_some (sym m.buffers) ∙ there c.buffers refl) in
       let strong : some_strong_live (members_of c.nodes) ≡ some_strong_live (members marks h.buffer.collection) =
       ap some_strong_live (members_match pool limits keep marks others c grown m) ∙ (strong-left (members marks c.id)
       ∙ ap (λ (k : ℕ). some_strong_live (members marks k)) (sym mine)) in

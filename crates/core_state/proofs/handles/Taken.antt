@@ -1,29 +1,124 @@
--- A Take is never answered with an empty set.
+-- The buffers of a collection are laid out in their order, so as many are held as are left. A Take is never answered with an empty set.
 use Rattle.core_state.proofs.Common.{Allocated, Allocates, Answers, AreTogether, Birth, Bool, Bound, BufferName, Buffers, Call, Called}
-use Rattle.core_state.proofs.Common.{Cause, Ends, Entry, Failure, Grows, In-any, In-find, In-list_any, In-map, Initial, IsAnswer}
-use Rattle.core_state.proofs.Common.{IsOrdered, List, Logical, Loses, Loss, MAX_BUFFERS, Mark, Member, NodeKey, None, Option, Reply, Some}
-use Rattle.core_state.proofs.Common.{Standing, Stays, Strength, Timeline, Why, [], abandoned, allocated, and-false, and_left, and_right}
-use Rattle.core_state.proofs.Common.{ap, arith, asked, birth_of, births, bit_at, bit_at-zero, bit_of_set, both_ways, buffers_of}
-use Rattle.core_state.proofs.Common.{collection_in, cond, doomed, either_way, eq-eqb, eqb-true, every_rests, false, false_if, fault}
-use Rattle.core_state.proofs.Common.{filter, find, find_birth, first_some, forced_why, given_root, gone, initial_failure, inl, inr}
-use Rattle.core_state.proofs.Common.{is_none, is_root, is_some, is_some-find, list_any, lt-ltb, ltb-true, map-Some, member, member_birth}
-use Rattle.core_state.proofs.Common.{members, named_below, names, nat_lt, next_forced, none_if, none_key, none_or_some, not, one}
-use Rattle.core_state.proofs.Common.{open_end, open_total, opens, option_map_or, ordered, pages_of, places, range_with_len, readings}
-use Rattle.core_state.proofs.Common.{refl, root_left, same_buffer, same_buffer-refl, same_key, same_key-true, same_strength, set_of}
-use Rattle.core_state.proofs.Common.{some_strong_live, spent, strength_of, subst, suc, sym, timeline, took_effect_all, true, weak, when}
-use Rattle.core_state.proofs.Common.{whole, zero, ℕ, ◌&&◌, ◌++◌, ◌<◌, ◌==◌, ◌∙◌, ◌∷◌, ◌≡◌, ◌⊎◌}
+use Rattle.core_state.proofs.Common.{Cause, Ends, Entry, Failure, Grows, HeldBuffer, In-any, In-find, In-list_any, In-map, In-map-back}
+use Rattle.core_state.proofs.Common.{Initial, IsAnswer, IsOrdered, List, Logical, Loses, Loss, MAX_BUFFERS, Mark, Member, NodeKey, None}
+use Rattle.core_state.proofs.Common.{Option, Reply, Some, Standing, Stays, Strength, Timeline, Why, [], abandoned, allocated, and-false}
+use Rattle.core_state.proofs.Common.{and_left, and_right, ap, arith, asked, birth_of, births, bit_at, bit_at-zero, bit_of_set, both_ways}
+use Rattle.core_state.proofs.Common.{buffers_of, collection_in, cond, doomed, either_way, eq-eqb, eqb-true, every_rests, false, false_if}
+use Rattle.core_state.proofs.Common.{fault, filter, filter-all, filter-append, filter-none, filter-swap, find, find_birth, first_some}
+use Rattle.core_state.proofs.Common.{forced_why, given_root, gone, held_after, home, initial_failure, inl, inr, is_none, is_root, is_some}
+use Rattle.core_state.proofs.Common.{is_some-find, laid_out, left, length, length-filter, length-map, list_any, lt-ltb, ltb-true, map}
+use Rattle.core_state.proofs.Common.{map-Some, map-append, member, member_birth, members, named_below, names, nat_lt, next_forced}
+use Rattle.core_state.proofs.Common.{none_if, none_key, none_or_some, not, one, open_end, open_total, opens, option_map_or, ordered}
+use Rattle.core_state.proofs.Common.{pages_of, placed, places, range_with_len, readings, refl, root_left, same_buffer, same_buffer-refl}
+use Rattle.core_state.proofs.Common.{same_key, same_key-true, set_of, some_strong_live, spent, strength_of, subst, suc, sym, timeline}
+use Rattle.core_state.proofs.Common.{took_effect_all, true, weak, when, whole, zero, ℕ, ◌&&◌, ◌++◌, ◌<◌, ◌==◌, ◌∙◌, ◌∷◌, ◌≡◌, ◌⊎◌}
+use Rattle.std.proofs.lemmas.List.{append-nil}
+use Rattle.std.proofs.lemmas.List.FromFn.{length-map-range_with_len}
 use Rattle.sm_names.specs.Handles.{buffer_names}
+use Rattle.history_laws.proofs.HeldLaws.{Lays, New, Nothing_new, allocation_lays}
+use Rattle.sm_names.proofs.ListLaws.{In}
+use Rattle.history_laws.proofs.PageLaws.{placed_apart}
+use Rattle.core_state.proofs.lists.Maps.{filter-map}
 use Rattle.sm_names.specs.Legality.{AreAnswers}
 use Rattle.sm_names.specs.Timelines.{standing}
 use Rattle.history_laws.proofs.BirthLaws.{named}
 use Rattle.history_laws.proofs.CountLaws.{anyone}
-use Rattle.history_laws.proofs.GrowthLaws.{grows_history, AreAnswers-append}
+use Rattle.history_laws.proofs.GrowthLaws.{AreAnswers-append, grows_history}
 use Rattle.history_laws.proofs.LifeLaws.{members_on}
-use Rattle.sm_names.proofs.ListLaws.{In}
 use Rattle.sm_names.proofs.ForcedLaws.{at_rest}
 use Rattle.sm_names.proofs.SamenessLaws.{not_none, same_strength-refl}
 use Rattle.history_laws.proofs.TakeLaws.{took}
 use Rattle.core_state.proofs.collections.Roots.{HasRoot, has_root}
+
+-- the buffer of the pages
+abbrev buffer_at : HeldBuffer → BufferName
+buffer_at h = h.buffer
+
+-- they are of a buffer of this collection
+abbrev is_ours : ℕ → HeldBuffer → Bool
+is_ours id h = h.buffer.collection == id
+
+-- what is laid out is laid out for these buffers
+laid_names : (pages : ℕ) (bs : List BufferName) (starts : List ℕ) → length starts ≡ length bs →
+    map buffer_at (laid_out pages bs starts) ≡ bs
+laid_names pages [] [] h = refl
+laid_names pages [] (s ∷ ss) h = absurd (omega arith)
+laid_names pages (b ∷ bs) [] h = absurd (omega arith)
+laid_names pages (b ∷ bs) (s ∷ ss) h =
+    let e : length ss ≡ length bs = omega arith in ap (λ (l : List BufferName). b ∷ l) (laid_names pages bs ss e)
+
+-- a name is of its collection
+pub named_in : (collection count : ℕ) (x : BufferName) → In x (names collection count) → x.collection ≡ collection
+named_in collection count x on = let m =
+    In-map (λ i. record { collection = collection; index = i }) (range_with_len 0 count) x on in ap (λ (y : BufferName). y.collection) m.2
+
+module _ (pool : ℕ) (before : Timeline) (mark : Mark) (id : ℕ)
+    (old : map buffer_at (filter (is_ours id) (placed pool before)) ≡ buffer_names before id) where
+  -- one more mark lays out those of the collection that it gives
+  named_by : Lays pool before mark → map buffer_at (filter (is_ours id) (placed pool (mark ∷ before))) ≡ buffer_names (mark ∷ before) id
+  named_by (Nothing_new e same) =
+      ap (λ (l : List HeldBuffer). map buffer_at (filter (is_ours id) (l ++ placed pool before))) e
+      ∙ (old ∙ ap (λ (o : Option Buffers). option_map_or (λ (b : Buffers). names id b.count) o []) (sym (same id)))
+  named_by (New collection buffers starts e there fresh given) =
+      ap (λ (l : List HeldBuffer). map buffer_at (filter (is_ours id) (l ++ placed pool before))) e
+      ∙ (ap (map buffer_at) (filter-append (is_ours id) laid (placed pool before))
+      ∙ (map-append buffer_at (filter (is_ours id) laid) (filter (is_ours id) (placed pool before))
+      ∙ (ap (λ (l : List BufferName). map buffer_at (filter (is_ours id) laid) ++ l) old
+      ∙ (by (either_way (collection == id)) ∙ ap (λ (o : Option Buffers). option_map_or (λ (b : Buffers). names id b.count) o [])
+      (sym (given id))))))
+    where
+      ns : List BufferName
+      ns = names collection buffers.count
+
+      laid : List HeldBuffer
+      laid = laid_out (pages_of buffers.size) (names collection buffers.count) starts
+
+      all : map buffer_at (laid_out (pages_of buffers.size) (names collection buffers.count) starts) ≡ names collection buffers.count
+      all = laid_names (pages_of buffers.size) ns starts
+          ((placed_apart pool (pages_of buffers.size) buffers.count _ starts there).many
+          ∙ sym (length-map-range_with_len (λ i. record { collection = collection; index = i }) 0 buffers.count))
+
+      of_it : (h : HeldBuffer) → In h (laid_out (pages_of buffers.size) (names collection buffers.count) starts) →
+          h.buffer.collection ≡ collection
+      of_it h on = named_in collection buffers.count h.buffer (subst (In h.buffer) all (In-map-back buffer_at laid h on))
+
+      by : ((collection == id) ≡ true) ⊎ ((collection == id) ≡ false) →
+          map buffer_at (filter (is_ours id) (laid_out (pages_of buffers.size) (names collection buffers.count) starts)) ++ buffer_names
+          before id
+          ≡ option_map_or (λ (b : Buffers). names id b.count) (cond (collection == id) (Some buffers) (buffers_of before id)) []
+      by (inl e) =
+          let same : collection ≡ id = eqb-true collection id e in
+          let each : filter (is_ours id) laid ≡ laid = filter-all (is_ours id) laid (λ h on. ap (λ (n : ℕ). n == id) (of_it h on) ∙ e) in
+          rw (e, ap (buffers_of before) (sym same) ∙ fresh) (append-nil (map buffer_at (filter (is_ours id) laid))
+          ∙ (ap (map buffer_at) each ∙ (all ∙ ap (λ (n : ℕ). names n buffers.count) same)))
+      by (inr e) =
+          let none : filter (is_ours id) laid ≡ [] = filter-none (is_ours id) laid (λ h on. ap (λ (n : ℕ). n == id) (of_it h on) ∙ e) in
+          rw (e, none) refl
+
+-- so the buffers of a collection were laid out in their order
+placed_names : (pool : ℕ) (limits : Bound) (marks : Timeline) → Grows pool limits [] marks → (id : ℕ) →
+    map buffer_at (filter (is_ours id) (placed pool marks)) ≡ buffer_names marks id
+placed_names pool limits _ Stays id = refl
+placed_names pool limits _ (Answers before client reply call g answer) id = placed_names pool limits before g id
+placed_names pool limits _ (Loses before origin cause g born) id = placed_names pool limits before g id
+placed_names pool limits _ (Ends before collection top g e) id = placed_names pool limits before g id
+placed_names pool limits _ (Allocates before collection head g e) id =
+    named_by pool before (Allocated head) id (placed_names pool limits before g id) (allocation_lays pool limits before collection g head
+    (forced_why pool collection before (Allocated head) e))
+
+-- and as many are held as are left
+pub held_left : (pool : ℕ) (limits : Bound) (marks : Timeline) → Grows pool limits [] marks → (id : ℕ) →
+    length (held_after pool marks id) ≡ left marks id
+held_left pool limits marks g id =
+    let is_out : BufferName → Bool = λ b. not (home marks b) in
+    ap length (filter-swap (is_ours id) (λ (h : HeldBuffer). not (home marks h.buffer)) (placed pool marks))
+    ∙ (sym (length-map (filter (λ (h : HeldBuffer). not (home marks h.buffer)) (filter (is_ours id) (placed pool marks))) buffer_at)
+    ∙ (ap length (sym (filter-map is_out buffer_at (filter (is_ours id) (placed pool marks)))
+    ∙ ap (filter is_out) (placed_names pool limits marks g id))
+    ∙ length-filter is_out (buffer_names marks id)))
+
+-- ---- a Take is never answered with an empty set
 
 -- ---- a collection is given one buffer at least
 
@@ -64,9 +159,7 @@ module _ (pool : ℕ) (limits : Bound) where
         | inr e ↦ old c w (rw (is, root, e) at h)
       ]
   some_after before collection _ g (Logical b on ours child free waits attached) old c w h =
-      let is : birth_of before b.node ≡ Some b = find_birth (births before) b (ordered pool limits before g).sound on in
-      let up : is_none b.parent ≡ false = not_none b.parent child in
-      old c w (rw (is, up) at h)
+      old c w (rw (find_birth (births before) b (ordered pool limits before g).sound on, not_none b.parent child) at h)
 
   -- so each has some
   pub have_some : (marks : Timeline) → Grows pool limits [] marks → HaveSome marks
@@ -97,15 +190,13 @@ module _ (marks : Timeline) (ord : IsOrdered marks) (root : Birth) (there : In r
       below : ((q : Birth) → In q older → root.collection ≡ q.collection → gone marks q.node ≡ true) → (o : Option NodeKey) → c.parent ≡ o →
           gone marks c.node ≡ true
       below above None up =
-          let is : root ≡ c = ord.roots root c there (among c (inl refl)) top up ours in
-          subst (λ (x : Birth). gone marks x.node ≡ true) is taken
+          subst (λ (x : Birth). gone marks x.node ≡ true) (ord.roots root c there (among c (inl refl)) top up ours) taken
       below above (Some p) up =
           let in_it : collection_in older p ≡ Some c.collection = rw up at together.0 in
           let m = map-Some (λ (x : Birth). x.collection) (find (λ x. same_key x.node p) older) c.collection in_it in
           let f = In-find (λ x. same_key x.node p) older m.0 m.1 in
-          let parent_gone : gone marks m.0.node ≡ true = above m.0 f.0 (ours ∙ sym m.2) in
           let is : m.0.node ≡ p = same_key-true m.0.node p f.1 in
-          ord.gone_down c (among c (inl refl)) p up (subst (λ (k : NodeKey). gone marks k ≡ true) is parent_gone)
+          ord.gone_down c (among c (inl refl)) p up (subst (λ (k : NodeKey). gone marks k ≡ true) is (above m.0 f.0 (ours ∙ sym m.2)))
 
 -- ---- a buffer that is kept
 
@@ -126,8 +217,7 @@ by_node g z false is = cc
 -- nor is one on which a strong handle is open
 by_handle : (g a : Bool) (n : ℕ) → nat_lt 0 n ≡ true → (g && (n == 0 && not a)) ≡ false
 by_handle g a n is =
-    let more : 0 < n = ltb-true 0 n is in
-    let some : (n == 0) ≡ false = false_if (n == 0) (λ h. let none : n ≡ 0 = eqb-true n 0 h in omega (arith, more)) in
+    let some : (n == 0) ≡ false = false_if (n == 0) (λ h. let none : n ≡ 0 = eqb-true n 0 h in omega (arith, ltb-true 0 n is)) in
     rw some (and-false g)
 
 module _ (pool : ℕ) (limits : Bound) (marks : Timeline) (grown : Grows pool limits [] marks) (rest : (c : ℕ) →
@@ -185,10 +275,8 @@ module _ (pool : ℕ) (limits : Bound) (marks : Timeline) (grown : Grows pool li
           rw given at some in
           let t = In-list_any (λ (x : BufferName). nat_lt 0 (open_total marks x Strength.Strong)) (names b.collection w.count) named in
           let m = In-map (λ i. record { collection = b.collection; index = i }) (range_with_len 0 w.count) t.0 t.1 in
-          let it : list_any (λ x. same_buffer x t.0) (names b.collection w.count) ≡ true =
-          In-any (λ x. same_buffer x t.0) (names b.collection w.count) t.0 t.1 (same_buffer-refl t.0) in
-          let low : nat_lt t.0.index w.count ≡ true =
-          and_right (b.collection == t.0.collection) _ (sym (named_below b.collection w.count t.0) ∙ it) in
+          let it = In-any (λ x. same_buffer x t.0) (names b.collection w.count) t.0 t.1 (same_buffer-refl t.0) in
+          let low = and_right (b.collection == t.0.collection) _ (sym (named_below b.collection w.count t.0) ∙ it) in
           let stays : doomed marks t.0 ≡ false = by_handle _ _ (open_total marks t.0 Strength.Strong) t.2 in
           (m.0, ap (λ (x : BufferName). nat_lt x.index w.count) (sym m.2) ∙ low, ap (doomed marks) (sym m.2) ∙ stays)
 
@@ -247,18 +335,15 @@ module _ (pool : ℕ) (limits : Bound) (marks : Timeline) (grown : Grows pool li
     -- so it is not empty
     pub not_empty : 0 < set
     not_empty = above_nothing set (false_if (set == 0) (λ h.
-        let none : set ≡ 0 = eqb-true set 0 h in
-        let off : bit_at set some_taken.0 ≡ 0 = ap (λ m. bit_at m some_taken.0) none ∙ bit_at-zero some_taken.0 in
-        let no : 1 ≡ 0 = sym some_taken.1 ∙ off in
+        let no : 1 ≡ 0 = sym some_taken.1 ∙ (ap (λ m. bit_at m some_taken.0) (eqb-true set 0 h) ∙ bit_at-zero some_taken.0) in
         cc))
 
     -- and a handle is opened on some buffer
     pub some_opened : (buffer : BufferName) × (opens anyone buffer taken (Called client reply call) ≡ true)
     some_opened =
-        let s : same_strength taken taken ≡ true = same_strength-refl taken in
         let c : (collection == collection) ≡ true = eq-eqb collection collection refl in
         let b : (bit_at set some_taken.0 == 1) ≡ true = eq-eqb (bit_at set some_taken.0) 1 some_taken.1 in
-        (record { collection = collection; index = some_taken.0 }, λ i. c i && (s i && b i))
+        (record { collection = collection; index = some_taken.0 }, λ i. c i && ((same_strength-refl taken) i && b i))
 
 -- ---- in a history
 

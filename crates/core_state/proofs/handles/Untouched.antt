@@ -5,7 +5,7 @@ use Rattle.core_state.proofs.Common.{idle_opens, is_about_handles, one_if, only,
 use Rattle.event_laws.specs.ByEvent.{anyone}
 use Rattle.buffer_holds.specs.Counts.{Counts}
 use Rattle.core_state.specs.Hands.{CanUndo}
-use Rattle.core_state.proofs.handles.Undoing.{not_taken, not_doubled, not_dropped, not_handed, not_handles}
+use Rattle.core_state.proofs.handles.Moves.{not_doubled, not_dropped, not_handed, not_handles, not_taken}
 
 -- where nothing is gained or lost, a count stays
 rests : (n : ℕ) (gained lost : Bool) → gained ≡ false → lost ≡ false → GoesBy n n gained lost

@@ -1,9 +1,9 @@
--- Elements by their numbers, where no two have the same one.
+-- Elements by their numbers, where no two have the same one. What is sorted, mapped.
 use Rattle.core_state.proofs.Common.{Bool, In-filter, In-reverse, List, [], ap, arith, cond, either_way, false, filter, inl, inr}
-use Rattle.core_state.proofs.Common.{insert_by, lt-ltb, ltb-false, ltb-true, nat_lt, refl, reverse, reverse-append, sorted_by, sym, true}
-use Rattle.core_state.proofs.Common.{ℕ, ◌++◌, ◌<◌, ◌∙◌, ◌∷◌, ◌≡◌, ◌≤◌}
+use Rattle.core_state.proofs.Common.{insert_by, lt-ltb, ltb-false, ltb-true, map, nat_lt, refl, reverse, reverse-append, sorted_by, sym}
+use Rattle.core_state.proofs.Common.{true, ℕ, ◌++◌, ◌<◌, ◌∙◌, ◌∷◌, ◌≡◌, ◌≤◌}
 use Rattle.sm_names.proofs.ListLaws.{In}
-use Rattle.core_state.proofs.lists.Reorderings.{Adds, First, Later, Mixed, Nothing, Puts, In-mixed}
+use Rattle.core_state.proofs.lists.Reorderings.{Adds, First, In-mixed, Later, Mixed, Nothing, Puts}
 
 module _ {A : Type 0} (number : A → ℕ) where
   -- the number of no element of the list is that of the other
@@ -34,36 +34,28 @@ module _ {A : Type 0} (number : A → ℕ) where
             not_less (number x) (number y) (λ l. let k = ltb-true (number y) (number x) e in omega arith) in
             rw (e, other) refl
         | inr e ↦
-            let far : number x ≤ number y = ltb-false (number y) (number x) e in
-            let less : number x < number y = close (number x) (number y) far differ in
-            rw (e, lt-ltb (number x) (number y) less) refl
+            rw (e, lt-ltb (number x) (number y) (close (number x) (number y) (ltb-false (number y) (number x) e) differ)) refl
       ]
   insert_swap x y (z ∷ zs) differ =
-      let on : insert_by number x (insert_by number y zs) ≡ insert_by number y (insert_by number x zs) = insert_swap x y zs differ in
       elim (either_way (nat_lt (number z) (number x))) [
         | inl zx ↦ elim (either_way (nat_lt (number z) (number y))) [
-          | inl zy ↦ rw (zx, zy, zx) (ap (λ (l : List A). z ∷ l) on)
+          | inl zy ↦ rw (zx, zy, zx) (ap (λ (l : List A). z ∷ l) (insert_swap x y zs differ))
           | inr zy ↦
               let far : number y ≤ number z = ltb-false (number z) (number y) zy in
               let near : number z < number x = ltb-true (number z) (number x) zx in
-              let yx : nat_lt (number y) (number x) ≡ true = lt-ltb (number y) (number x) (omega arith) in
-              rw (zx, zy, yx, zx) refl
+              rw (zx, zy, lt-ltb (number y) (number x) (omega arith), zx) refl
         ]
         | inr zx ↦ elim (either_way (nat_lt (number z) (number y))) [
           | inl zy ↦
               let far : number x ≤ number z = ltb-false (number z) (number x) zx in
               let near : number z < number y = ltb-true (number z) (number y) zy in
-              let xy : nat_lt (number x) (number y) ≡ true = lt-ltb (number x) (number y) (omega arith) in
-              rw (zx, zy, zx, xy) refl
+              rw (zx, zy, zx, lt-ltb (number x) (number y) (omega arith)) refl
           | inr zy ↦ elim (either_way (nat_lt (number y) (number x))) [
             | inl e ↦
                 let less : number y < number x = ltb-true (number y) (number x) e in
-                let other : nat_lt (number x) (number y) ≡ false = not_less (number x) (number y) (λ l. omega arith) in
-                rw (zx, zy, e, other, zx) refl
+                rw (zx, zy, e, not_less (number x) (number y) (λ l. omega arith), zx) refl
             | inr e ↦
-                let far : number x ≤ number y = ltb-false (number y) (number x) e in
-                let less : nat_lt (number x) (number y) ≡ true = lt-ltb (number x) (number y) (close (number x) (number y) far differ) in
-                rw (zx, zy, e, less) refl
+                rw (zx, zy, e, lt-ltb (number x) (number y) (close (number x) (number y) (ltb-false (number y) (number x) e) differ)) refl
           ]
         ]
       ]
@@ -134,3 +126,24 @@ module _ {A : Type 0} (number : A → ℕ) where
       Puts x xs (sorted_by number xs) (insert_by number x (sorted_by number xs)) (mixed_sorted xs) (insert-adds x (sorted_by number xs))
 
 -- ---- elements that are made of others
+
+-- ---- what is sorted, mapped
+
+-- one that is made of another is put into the place of that
+insert_by-map : {A B : Type 0} (number : B → ℕ) (f : A → B) (x : A) (xs : List A) →
+    insert_by number (f x) (map f xs) ≡ map f (insert_by (λ y. number (f y)) x xs)
+insert_by-map number f x [] = refl
+insert_by-map number f x (y ∷ ys) =
+    elim (nat_lt (number (f y)) (number (f x))) as (λ (b : Bool).
+    cond b (f y ∷ insert_by number (f x) (map f ys)) (f x ∷ f y ∷ map f ys)
+    ≡ map f (cond b (y ∷ insert_by (λ z. number (f z)) x ys) (x ∷ y ∷ ys))) [
+      | true ↦ ap (λ (l : List _). f y ∷ l) (insert_by-map number f x ys)
+      | false ↦ refl
+    ]
+
+-- a map of sorted elements is sorted by what they were sorted by
+pub sorted_by-map : {A B : Type 0} (number : B → ℕ) (f : A → B) (xs : List A) →
+    sorted_by number (map f xs) ≡ map f (sorted_by (λ y. number (f y)) xs)
+sorted_by-map number f [] = refl
+sorted_by-map number f (x ∷ xs) =
+    ap (insert_by number (f x)) (sorted_by-map number f xs) ∙ insert_by-map number f x (sorted_by (λ y. number (f y)) xs)

@@ -98,9 +98,8 @@ highest-left marks collection w b here =
         let r = member_birth marks collection n there in
         elim (either_way (same_key n.key k)) [
           | inl e ↦
-              let free : gone marks n.key ≡ false = ap (gone marks) (same_key-true n.key k e) ∙ line_left marks w b.node here k on in
               let is : n.gone ≡ gone marks n.key = ap (λ (m : Member). m.gone) r.2 ∙ ap (λ (m : Member). gone marks m.key) (sym r.2) in
-              both_ways (is_left n) (ap not (is ∙ free)) lost
+              both_ways (is_left n) (ap not (is ∙ (ap (gone marks) (same_key-true n.key k e) ∙ line_left marks w b.node here k on))) lost
           | inr e ↦ rw e refl
         ]
 

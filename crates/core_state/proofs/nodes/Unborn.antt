@@ -1,19 +1,66 @@
--- Nothing was ever said of a node that was not born.
-use Rattle.core_state.proofs.Common.{Allocated, Allocates, Answers, Birth, Bool, Bound, Call, Called, Ended, Ends, Grows, HasEnd}
-use Rattle.core_state.proofs.Common.{In-was_born, Initial, IsAnswer, List, Logical, Loses, Loss, Mark, NodeKey, None, Option, Reply, Some}
-use Rattle.core_state.proofs.Common.{Stays, Timeline, Why, [], ap, birth_at, births, both_ways, cons_option, constraints, covered}
-use Rattle.core_state.proofs.Common.{covers_children, either_way, events, false, false_if, false≢true, fault, fault_gone, forced_why}
-use Rattle.core_state.proofs.Common.{gone, inl, inr, is_allocation, is_event, is_refusal, is_some, is_taking, is_tracking, key_of}
-use Rattle.core_state.proofs.Common.{list_any, none_or_some, not_refused_end, or_none_left, or_none_right, ordered, readings, refl}
-use Rattle.core_state.proofs.Common.{released, same_key, same_key-true, sets_weak, sets_weak_ok, sym, times, true, was_born, weak, ℕ, ◌+◌}
-use Rattle.core_state.proofs.Common.{◌∙◌, ◌∷◌, ◌≡◌}
+-- A node that is misused is not gone. Nothing was ever said of a node that was not born.
+use Rattle.core_state.proofs.Common.{Allocated, Allocates, Answers, Birth, Bool, Bound, Call, Called, Ended, Ends, Fault, Grows, HasEnd}
+use Rattle.core_state.proofs.Common.{In-was_born, Initial, IsAnswer, List, Logical, Loses, Loss, Mark, Misuse, NodeKey, None, OpenEnd}
+use Rattle.core_state.proofs.Common.{Option, Readings, Reply, Some, Stays, Timeline, Why, [], ap, birth_at, births, both_ways, closing}
+use Rattle.core_state.proofs.Common.{cons_option, constraints, covered, covers_children, effect, end_named, events, false, false_if}
+use Rattle.core_state.proofs.Common.{fault, fault_gone, first_some, forced_why, gone, inl, inr, is_allocation, is_event, is_some}
+use Rattle.core_state.proofs.Common.{is_taking, is_tracking, key_of, key_told, limits_met, list_any, misuse, no_handle, none_or_some}
+use Rattle.core_state.proofs.Common.{not_refused_end, option_and_then, or_none_left, or_none_right, ordered, peer_closed, readings, refl}
+use Rattle.core_state.proofs.Common.{released, same_key, same_key-true, sets_weak, sets_weak_ok, spent, sym, times, true, unwrap_or}
+use Rattle.core_state.proofs.Common.{was_born, weak, wrong_kind, ℕ, ◌+◌, ◌∙◌, ◌∷◌, ◌≡◌}
+use Rattle.std.specs.Option.{option_map}
+use Rattle.history_laws.proofs.BirthLaws.{birth_was_born, has_no_fault}
+use Rattle.history_laws.proofs.TakeLaws.{from_closing}
 use Rattle.sm_names.specs.Losses.{is_dispensable, is_release}
 use Rattle.sm_names.specs.Members.{constraints_at}
 use Rattle.sm_names.specs.Weakness.{born_to}
-use Rattle.history_laws.proofs.BirthLaws.{birth_was_born}
 use Rattle.sm_names.proofs.SamenessLaws.{or_both}
-use Rattle.history_laws.proofs.EventLaws.{Names, is_none_if, releases_it, dispenses_it, weakens_it, allows_it, covers_it, takes_it}
-use Rattle.history_laws.proofs.EventLaws.{tracks_it, constrains_it}
+use Rattle.history_laws.proofs.EventLaws.{Names, allows_it, constrains_it, covers_it, dispenses_it, is_none_if, releases_it, takes_it}
+use Rattle.history_laws.proofs.EventLaws.{tracks_it, weakens_it}
+
+-- ---- a misuse
+
+-- closing is no misuse
+closes_none : (call : Call) (rest : List (Option Reply)) (e : Reply) (m : Misuse) →
+    Reply.Misused m ≡ unwrap_or (first_some (closing call ∷ rest)) e → Reply.Misused m ≡ unwrap_or (first_some rest) e
+closes_none (Call.Close key) rest e m h = cc
+closes_none _ rest e m h = h
+
+-- nor is what is told of a node that is gone
+none_closed : (o : Option Fault) (rest : List (Option Reply)) (e : Reply) (m : Misuse) →
+    Reply.Misused m ≡ unwrap_or (first_some (option_map (λ (f : Fault). Reply.PeerClosed f.cause f.origin) o ∷ rest)) e →
+    option_map (λ (f : Fault). Reply.PeerClosed f.cause f.origin) o ≡ None
+none_closed None rest e m h = refl
+none_closed (Some f) rest e m h = cc
+
+-- so a node that is misused has not failed
+not_closed : (r : Readings) (call : Call) (rest : List (Option Reply)) (e : Reply) (m : Misuse) →
+    Reply.Misused m ≡ unwrap_or (first_some (peer_closed r call ∷ rest)) e → peer_closed r call ≡ None
+not_closed r call rest e m h = from (end_named r call) h
+  where
+    -- by cases: a node that failed would be answered PeerClosed before
+    from : (o : Option OpenEnd) → Reply.Misused m ≡ unwrap_or (first_some (option_and_then (λ (x : OpenEnd).
+        option_map (λ (f : Fault). Reply.PeerClosed f.cause f.origin) x.fault) o ∷ rest)) e →
+        option_and_then (λ (x : OpenEnd). option_map (λ (f : Fault). Reply.PeerClosed f.cause f.origin) x.fault) o ≡ None
+    from None h = refl
+    from (Some x) h = none_closed x.fault rest e m h
+
+-- a node that is misused is not gone
+pub misused_here : (pool : ℕ) (limits : Bound) (marks : Timeline) → Grows pool limits [] marks →
+    (client : ℕ) (call : Call) (m : Misuse) (key : NodeKey) →
+    IsAnswer limits (readings marks) client call (Reply.Misused m) → key_of call ≡ Some key → gone marks key ≡ false
+misused_here pool limits marks g client call m key answer is =
+    let r : Readings = readings marks in
+    let new : NodeKey = key_told (Reply.Misused m) in
+    let e : Reply = effect r client new call in
+    let last : List (Option Reply) = wrong_kind r call ∷ misuse r call ∷ no_handle r client call ∷ limits_met limits r call in
+    let told = from_closing limits marks client new call (Reply.Misused m) refl answer.told in
+    let none : peer_closed r call ≡ None = not_closed r call last e m (closes_none call (peer_closed r call ∷ last) e m told) in
+    let there : HasEnd marks key = not_refused_end limits marks client call (Reply.Misused m) key answer refl is in
+    let fine : fault marks key ≡ None = has_no_fault marks call key there is none in
+    false_if (gone marks key) (λ h. both_ways (spent marks key) ((ordered pool limits marks g).ended_spent key h fine) there.unspent)
+
+-- ---- nothing was ever said of a node that was not born
 
 -- ---- a mark that speaks of another node
 
@@ -75,7 +122,6 @@ unsaid_called limits before client reply call answer node h u =
     let weakens : sets_weak node mark ≡ false = never (sets_weak node mark) (weakens_it node client reply call) in
     let constrains : constraints_at node mark ≡ None =
     is_none_if (constraints_at node mark) (never (is_some (constraints_at node mark)) (constrains_it node client reply call)) in
-    let tracks : is_tracking node mark ≡ false = never (is_tracking node mark) (tracks_it node client reply call) in
     record {
       heads_none = u.heads_none;
       not_gone = u.not_gone;
@@ -91,7 +137,7 @@ unsaid_called limits before client reply call answer node h u =
       not_covered = rw born u.not_covered;
       not_constrained = rw constrains u.not_constrained;
       not_taken = or_both (is_taking node mark) _ (never (is_taking node mark) (takes_it node client reply call)) u.not_taken;
-      not_tracked = rw tracks u.not_tracked;
+      not_tracked = rw (never (is_tracking node mark) (tracks_it node client reply call)) u.not_tracked;
     }
 
 -- a node that is not gone has no fault
@@ -185,12 +231,10 @@ unsaid pool limits _ (Loses before origin cause g born) node h =
 unsaid pool limits _ (Allocates before collection head g e) node h =
     let there : Grows pool limits [] (Allocated head ∷ before) = Allocates before collection head g e in
     let other : same_key head node ≡ false = false_if (same_key head node) (λ s.
-    let was : was_born (births before) head ≡ true =
-    allocated_born pool collection before head (forced_why pool collection before (Allocated head) e) in
+    let was = allocated_born pool collection before head (forced_why pool collection before (Allocated head) e) in
     both_ways (was_born (births before) node) (ap (was_born (births before)) (sym (same_key-true head node s)) ∙ was) h) in
     unsaid_mark before (Allocated head) node refl other (gone_no_more pool limits (Allocated head ∷ before) node there h)
     (unsaid pool limits before g node h)
 unsaid pool limits _ (Ends before collection top g e) node h =
-    let there : Grows pool limits [] (Ended top ∷ before) = Ends before collection top g e in
-    unsaid_mark before (Ended top) node refl refl (gone_no_more pool limits (Ended top ∷ before) node there h)
+    unsaid_mark before (Ended top) node refl refl (gone_no_more pool limits (Ended top ∷ before) node (Ends before collection top g e) h)
     (unsaid pool limits before g node h)

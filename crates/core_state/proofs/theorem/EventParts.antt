@@ -11,9 +11,9 @@ use Rattle.core_state.specs.Tasks.{DoesSome, end_placed, spent_in}
 use Rattle.core_state.proofs.forced.Known.{IsKnown}
 use Rattle.core_state.proofs.forced.Change.{can_finish}
 use Rattle.core_state.proofs.handles.Moves.{moved}
-use Rattle.core_state.proofs.theorem.Event.{IsKeyed, is_answer, is_keyed, may_do, same_clients, same_end, same_handles, same_tracker}
-use Rattle.core_state.proofs.theorem.Event.{worked_is}
-use Rattle.core_state.proofs.forced.Whole.{Known, Named, end_at, named}
+use Rattle.core_state.proofs.theorem.Follows.{IsKeyed, is_answer, is_keyed, may_do, same_clients, same_end, same_handles, same_tracker}
+use Rattle.core_state.proofs.theorem.Follows.{worked_is}
+use Rattle.core_state.proofs.forced.Forest.{Known, end_at, named}
 
 -- ---- no task
 
@@ -79,8 +79,7 @@ carried_there : (s : State) (client : ℕ) (call : Call) (asked : Reply) (place 
     carried_by client call asked ≡ Some place →
     ((n : Node) × (node_at s.forest place.key ≡ Some n) × (is_spent n.end ≡ false)) × (is_spent place.end ≡ false)
 carried_there s client (Call.Give key to) Reply.Done place known is =
-    let named_so : Named s (Call.Give key to) Reply.Done key =
-    named s.limits s client no_key (Call.Give key to) Reply.Done key known.told refl refl in
+    let named_so = named s.limits s client no_key (Call.Give key to) Reply.Done key known.told refl refl in
     let same : record { key = key; end = End.InTransit client } ≡ place = cc in
     subst (λ (p : EndPlace). ((n : Node) × (node_at s.forest p.key ≡ Some n) × (is_spent n.end ≡ false)) × (is_spent p.end ≡ false)) same
     ((named_so.node, named_so.at, named_so.unspent), refl)
@@ -187,8 +186,7 @@ module _ (s : State) (client : ℕ) (call : Call) (asked reply : Reply) (task : 
           by : (o : Option EndPlace) → carried ≡ o → carried ≡ None
           by None is = is
           by (Some c) is =
-              let none : task ≡ None = idle (carried_idle s client call asked c (sym carries ∙ is)) in
-              let not_there : is_some task ≡ false = ap is_some none in
+              let not_there : is_some task ≡ false = ap is_some (idle (carried_idle s client call asked c (sym carries ∙ is))) in
               cc
 
       -- the end that is carried is there

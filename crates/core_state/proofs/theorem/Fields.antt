@@ -7,14 +7,12 @@ use Rattle.core_state.proofs.Common.{◌∙◌, ◌∷◌, ◌≡◌}
 use Rattle.std.proofs.Common.{option_map}
 use Rattle.std.specs.List.{All}
 use Rattle.core_state.proofs.theorem.EventParts.{Begins, made, step_answers}
-use Rattle.core_state.proofs.handles.Movable.{may_move}
+use Rattle.core_state.proofs.handles.Counts.{handles_called, may_move}
 use Rattle.core_state.proofs.firing.Fields.{attached_above, attached_fits}
 use Rattle.core_state.proofs.handles.Moves.{moved}
-use Rattle.core_state.proofs.theorem.Event.{same_handles, same_tracker, same_work, worked_is}
-use Rattle.core_state.proofs.handles.Counts.{handles_called}
-use Rattle.core_state.proofs.theorem.Follows.{Counts}
+use Rattle.core_state.proofs.theorem.Follows.{Counts, same_handles, same_tracker, same_work, worked_is}
 use Rattle.core_state.proofs.theorem.Recalling.{behind, gains_recall, work_recalls, worked_recalls}
-use Rattle.core_state.proofs.theorem.Sweeping.{elsewhere}
+use Rattle.core_state.proofs.theorem.GoesOn.{elsewhere}
 use Rattle.core_state.proofs.views.SameAnswers.{answer_is}
 
 -- the collection to which a task makes a change, if it makes one

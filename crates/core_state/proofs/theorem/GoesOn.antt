@@ -1,29 +1,41 @@
--- Each legal history that a state shows, extended by an answered event, is legal, and the next state shows it.
-use Rattle.core_state.proofs.Common.{Birth, Bound, Call, Called, Entry, Follows, Forest, GoesOn, Grows, HandleCounts, Handles, In-any}
-use Rattle.core_state.proofs.Common.{In-filter, In-list_any, IsAfter, IsAnswer, List, NodeKey, None, Option, Reply, Shows, Some, State}
-use Rattle.core_state.proofs.Common.{Timeline, Work, Worked, [], after, ap, arith, birth_at, births, clients_by, collection_after}
-use Rattle.core_state.proofs.Common.{cons_option, counts_of, empty_state, end_by, events, events_after, every_rests, false, given}
-use Rattle.core_state.proofs.Common.{handles_after, handles_by, inl, inr, kept_ids, legal_grows, length, map, new_key, next_forced, not}
-use Rattle.core_state.proofs.Common.{option_map_or, or_cases, or_left, or_right, readings, readings_of, refl, same_key, subst, sym}
-use Rattle.core_state.proofs.Common.{timeline, timeline-push, total, true, was_born, with_place, without_id, without_unkept, work_of, ℕ}
+-- Each legal history that a state shows, extended by an answered event, is legal, and the next state shows it. Which trackers an event
+-- has to look at: a tracker elsewhere is not due.
+use Rattle.core_state.proofs.Common.{Birth, Bool, Bound, Call, Called, Collection, Condition, Entry, Follows, Forest, GainsTracker}
+use Rattle.core_state.proofs.Common.{GoesOn, Grows, HandleCounts, Handles, In-all, In-any, In-filter, In-list_any, In-map-back, IsAfter}
+use Rattle.core_state.proofs.Common.{IsAnswer, IsOf, List, Node, NodeKey, None, Option, Reply, Shows, Some, State, Stays, Strength}
+use Rattle.core_state.proofs.Common.{Timeline, TrackerTable, Waiting, Work, Worked, [], after, ap, arith, birth_at, births, clients_by}
+use Rattle.core_state.proofs.Common.{collection_after, cons_option, counts_of, empty_state, end_by, events, events_after, every_rests}
+use Rattle.core_state.proofs.Common.{false, false≢true, given, grows_after, handles_after, handles_by, holds, inl, inr, is_due, is_some}
+use Rattle.core_state.proofs.Common.{kept_ids, legal_grows, length, looked_in, map, map-Some, members_of, new_key, next_forced, node_at}
+use Rattle.core_state.proofs.Common.{not, option_map_or, or_cases, or_left, or_right, readings, readings_of, recalled_due, refl, same_key}
+use Rattle.core_state.proofs.Common.{some_strong_live, subst, sym, timeline, timeline-push, total, tracked_as, tracker_by}
+use Rattle.core_state.proofs.Common.{trackers_to_test, true, was_born, with_place, without_id, without_unkept, work_of, world_in, ℕ, ◌&&◌}
 use Rattle.core_state.proofs.Common.{◌++◌, ◌+◌, ◌<◌, ◌==◌, ◌||◌, ◌∙◌, ◌∷◌, ◌≡◌}
 use Rattle.sm_names.specs.Legality.{IsLegal}
 use Rattle.sm_names.specs.Views.{views}
 use Rattle.history_laws.proofs.HistoryLaws.{legal_on}
-use Rattle.core_state.proofs.forced.CallStep.{IsIdle}
+use Rattle.core_state.proofs.forced.Starting.{IsIdle}
 use Rattle.core_state.proofs.answers.Changes.{idle, starts}
-use Rattle.core_state.proofs.joined.Joining.{clients_event}
+use Rattle.core_state.proofs.joined.Rows.{clients_event}
 use Rattle.core_state.proofs.theorem.EventCount.{events-timeline}
-use Rattle.core_state.proofs.nodes.Answered.{no_birth}
-use Rattle.core_state.proofs.collections.Elsewhere.{came}
+use Rattle.core_state.proofs.nodes.Ancestors.{no_birth}
+use Rattle.core_state.proofs.collections.Pages.{came}
 use Rattle.core_state.proofs.handles.Counts.{handles_called, handles_event}
 use Rattle.core_state.proofs.forced.NothingForced.{idle_after, idle_collections}
 use Rattle.core_state.proofs.theorem.Follows.{Counts}
 use Rattle.core_state.proofs.views.SameAnswers.{answer_is}
-use Rattle.core_state.proofs.views.AfterEvents.{idle_seen, work_seen}
-use Rattle.core_state.proofs.views.ForTrackers.{IsSeen}
-use Rattle.core_state.proofs.firing.NextTrackers.{trackers_follow}
-use Rattle.core_state.proofs.forced.Work.{births_later, worked_collections}
+use Rattle.core_state.proofs.views.AfterEvents.{idle_seen, totals_are, work_seen}
+use Rattle.core_state.proofs.views.HeldApart.{IsSeen, recalled}
+use Rattle.core_state.proofs.firing.Sweeps.{AreAsked, are_asked, tracker_is, trackers_follow}
+use Rattle.core_state.proofs.forced.Change.{births_later, worked_collections}
+use Rattle.std.proofs.Common.{option_map}
+use Rattle.std.specs.List.{All}
+use Rattle.sm_names.proofs.ListLaws.{In}
+use Rattle.event_laws.proofs.ConcernLaws.{others_not_due}
+use Rattle.forest_store.specs.Forest.{collection_at as collection_told}
+use Rattle.core_state.proofs.firing.Fields.{attached_from, new_elsewhere}
+use Rattle.core_state.proofs.theorem.OfHistory.{undue_of}
+use Rattle.core_state.proofs.views.Nodes.{node_there}
 
 module _ (s : State) (marks : Timeline) (shown : IsAfter s marks) (limits : Bound) (grown : Grows s.pool limits [] marks) (client : ℕ)
     (reply : Reply) (call : Call)
@@ -52,8 +64,7 @@ module _ (s : State) (marks : Timeline) (shown : IsAfter s marks) (limits : Boun
             (collection_after s.pool (after s.pool marks (client, call, reply))) (kept_ids (after s.pool marks (client, call, reply)))
         from None e same =
             let i : IsIdle marks client reply call = idle s marks shown limits grown client reply call answer e in
-            let now : after s.pool marks (client, call, reply) ≡ called =
-            idle_after s marks shown limits grown client reply call answer i rests in
+            let now = idle_after s marks shown limits grown client reply call answer i rests in
             ap (λ (f : Forest). without_unkept (with_place (end_by client call reply) f).collections) same
             ∙ (idle_collections s marks shown limits grown client reply call answer i rests
             ∙ ap (λ (t : Timeline). map (collection_after s.pool t) (kept_ids t)) (sym now))
@@ -94,10 +105,8 @@ module _ (s : State) (marks : Timeline) (shown : IsAfter s marks) (limits : Boun
         from : (o : Option Work) → work_of s client call reply ≡ o → Worked s handles o (new_key reply) worked → given worked key ≡ true
         from None e same =
             let i : IsIdle marks client reply call = idle s marks shown limits grown client reply call answer e in
-            let none : birth_at (events marks + 1) (Called client reply call) ≡ None =
-            no_birth 0 (events marks + 1) (Called client reply call) i.bears_none in
-            let was : was_born (births marks) key ≡ true =
-            ap (λ (o : Option Birth). was_born (cons_option o (births marks)) key) (sym none) ∙ born in
+            let none = no_birth 0 (events marks + 1) (Called client reply call) i.bears_none in
+            let was = ap (λ (o : Option Birth). was_born (cons_option o (births marks)) key) (sym none) ∙ born in
             ap (λ (f : Forest). given f key) same ∙ shown.given key was
         from (Some w) e settled = settled.keys key ∙ new_or_old (birth_at (events marks + 1) (Called client reply call)) refl born
 
@@ -137,17 +146,14 @@ pub goes_on : (old new : State) (client : ℕ) (call : Call) (reply : Reply) →
 goes_on old new client call reply told f room history shows =
     let marks : Timeline = timeline old.pool history in
     let grown : Grows old.pool old.limits [] marks = legal_grows old.pool old.limits history shows.legal in
-    let answer : IsAnswer old.limits (readings marks) client call reply =
-    answer_is old marks shows.shown old.limits grown old.limits client call reply told in
-    let rests : (collection : ℕ) → next_forced old.pool collection marks ≡ None =
-    every_rests old.pool old.limits history shows.legal.answers in
+    let answer = answer_is old marks shows.shown old.limits grown old.limits client call reply told in
+    let rests = every_rests old.pool old.limits history shows.legal.answers in
     let less : length history < old.limits.events = (let count : events marks ≡ length history = events-timeline old.pool history in
     let same : old.events ≡ events marks = shows.shown.events in omega (arith, count, same, room)) in
     let legal : IsLegal old.pool old.limits (history ++ (client, call, reply) ∷ []) =
     legal_on old.pool old.limits history (readings marks) (views old.pool marks) (client, call, reply) shows.legal
     (record { read_is = refl; seen_is = refl }) less answer in
-    let now : IsAfter new (after old.pool marks (client, call, reply)) =
-    after_event old marks shows.shown old.limits grown client reply call answer rests new f in
+    let now = after_event old marks shows.shown old.limits grown client reply call answer rests new f in
     let there : timeline new.pool (history ++ (client, call, reply) ∷ []) ≡ after old.pool marks (client, call, reply) =
     ap (λ (p : ℕ). timeline p (history ++ (client, call, reply) ∷ [])) f.pool ∙ timeline-push old.pool history (client, call, reply) in
     record {
@@ -193,3 +199,86 @@ take_shows s id history shows = record {
     };
   };
 }
+
+-- ---- which trackers an event has to look at: a tracker elsewhere is not due
+
+module _ (s : State) (marks : Timeline) (shown : IsAfter s marks) (limits : Bound) (grown : Grows s.pool limits [] marks) where
+  -- a node that is found is of its collection
+  found_in : (key : NodeKey) (n : Node) → node_at s.forest key ≡ Some n → IsOf marks n.collection (Condition.Node key)
+  found_in key n at =
+      let b = node_there s marks shown limits grown key n at in
+      ap (option_map (λ (x : Birth). x.collection)) b.1 ∙ ap (λ (x : Node). Some x.collection) (sym b.4)
+
+  -- a tracker that an event attaches is filed under the collection that it concerns
+  pub made_filed : (c : Call) (r : Reply) (t : Waiting) → tracker_by s.forest c r ≡ Some t → IsOf marks t.collection t.condition
+  made_filed (Call.TrackNode key) (Reply.Tracker id) t is =
+      let n = map-Some (λ (n : Node). record { id = id; collection = n.collection; condition = Condition.Node key })
+      (node_at s.forest key) t is in
+      subst (λ (w : Waiting). IsOf marks w.collection w.condition) n.2 (found_in key n.0 n.1)
+  made_filed (Call.TrackLifetime key most) (Reply.Tracker id) t is =
+      let n = map-Some (λ (n : Node). record { id = id; collection = n.collection; condition = Condition.Lifetime key n.collection most })
+      (node_at s.forest key) t is in
+      subst (λ (w : Waiting). IsOf marks w.collection w.condition) n.2 (refl, found_in key n.0 n.1)
+  made_filed (Call.TrackWeak buffer) (Reply.Tracker id) t is = subst (λ (w : Waiting). IsOf marks w.collection w.condition) (one is) refl
+    where
+      one : {w : Waiting} → Some w ≡ Some t → w ≡ t
+      one h = cc
+  made_filed _ _ t is = absurd (false≢true (ap is_some is))
+
+  module _ (filed : All (λ (t : Waiting). IsOf marks t.collection t.condition) s.trackers.unfired) (client : ℕ) (reply : Reply)
+      (call : Call) (attached : TrackerTable) (gains : GainsTracker s.trackers (tracker_by s.forest call reply) attached) where
+    -- each that waits once the event attached its own is filed so
+    pub filed_now : (t : Waiting) → In t attached.unfired → IsOf marks t.collection t.condition
+    filed_now t on = elim (attached_from s.trackers attached (tracker_by s.forest call reply) gains t on) [
+      | inl there ↦ In-all (λ (x : Waiting). IsOf marks x.collection x.condition) s.trackers.unfired filed t there
+      | inr made ↦ made_filed call reply t made
+    ]
+
+    module _ (answer : IsAnswer limits (readings marks) client call reply) (rests : (collection : ℕ) →
+        next_forced s.pool collection marks ≡ None) (handles : Handles) (counts : Counts handles (Called client reply call ∷ marks))
+        (worked : Forest) (work : Worked s handles (work_of s client call reply) (new_key reply) worked) where
+      -- where nothing is changed, what trackers look at is the same
+      same_holds : IsIdle marks client reply call → (condition : Condition) →
+          holds (world_in s.forest handles) condition ≡ holds (world_in s.forest (total s.holds)) condition
+      same_holds i (Condition.Node key) = refl
+      same_holds i (Condition.Lifetime key its most) = refl
+      same_holds i (Condition.Weak buffer) =
+          ap (λ (none : Bool). option_map_or (λ (c : Collection). is_some c.buffers && (none && not (some_strong_live
+          (members_of c.nodes)))) (collection_told s.forest buffer.collection) false)
+          (ap (λ (n : ℕ). n == 0) (counts buffer Strength.Strong) ∙ (i.opens_alike buffer Strength.Strong
+          ∙ ap (λ (h : Handles). h buffer Strength.Strong == 0) (sym (totals_are s marks shown limits grown))))
+
+      -- a tracker that is not looked for is not due
+      pub elsewhere : (t : Waiting) → In t attached.unfired →
+          (looked_in (world_in worked handles) (option_map (λ (w : Work). w.collection) (work_of s client call reply))
+          (tracker_by s.forest call reply) ≡ Some t.collection → ⊥) →
+          is_due (world_in worked handles) t ≡ false
+      elsewhere t on = by (work_of s client call reply) refl work
+        where
+          by : (o : Option Work) → work_of s client call reply ≡ o → Worked s handles o (new_key reply) worked →
+              (looked_in (world_in worked handles) (option_map (λ (w : Work). w.collection) o) (tracker_by s.forest call reply)
+              ≡ Some t.collection → ⊥) →
+              is_due (world_in worked handles) t ≡ false
+          by None e same other =
+              let i : IsIdle marks client reply call = idle s marks shown limits grown client reply call answer e in
+              elim (attached_from s.trackers attached (tracker_by s.forest call reply) gains t on) [
+                | inl there ↦
+                    rw same (same_holds i t.condition ∙ In-all (λ (x : Waiting). is_due (world_in s.forest (total s.holds)) x ≡ false)
+                    s.trackers.unfired (undue_of s marks shown limits grown filed) t there)
+                | inr made ↦ new_elsewhere (world_in worked handles) None (tracker_by s.forest call reply) t made (λ id is. absurd
+                    (false≢true (ap is_some is))) other
+              ]
+          by (Some w) e settled other =
+              let asks : AreAsked s marks shown limits grown client reply call answer attached =
+              are_asked s marks shown limits grown client reply call answer attached (tracker_by s.forest call reply) gains
+              (tracker_is s marks shown limits grown client reply call answer) in
+              let asked : In (tracked_as t) (trackers_to_test marks (client, call, reply)) =
+              subst (In (tracked_as t)) asks.waiting (In-map-back tracked_as attached.unfired t on) in
+              let of = (starts s marks shown limits grown client reply call answer w e).of in
+              recalled_due s.pool limits marks (after s.pool marks (client, call, reply))
+              (client, call, reply) (world_in worked handles) grown
+              (grows_after s.pool limits marks marks (client, call, reply) Stays answer) answer
+              (recalled s.pool limits marks grown (client, call, reply) worked handles
+              (seen_later s marks shown limits grown client reply call answer rests handles counts worked work)) (tracked_as t) asked
+              ∙ others_not_due s.pool limits marks (client, call, reply) t.collection grown answer (λ is. other (sym of ∙ is))
+              (tracked_as t) asked (filed_now t on)

@@ -1,9 +1,8 @@
 -- A call that changes nothing, but that it is one event more.
-use Rattle.core_state.proofs.Common.{Bool, Call, Called, Client, Follows, Forest, In-all, List, Mark, None, Parts, Reply, State}
-use Rattle.core_state.proofs.Common.{TakesEffect, Waiting, [], answer, carried_by, client_by, clients_by, collects, false, false≢true}
-use Rattle.core_state.proofs.Common.{given_at, is_about_handles, is_due, joined_at, map, no_key, readings_of, refl, shuts, spent_by}
-use Rattle.core_state.proofs.Common.{swept, sym, total, tracker_by, true, with_key, without_unkept, work_of, world_in, ℕ, ◌+◌, ◌∙◌, ◌∷◌}
-use Rattle.core_state.proofs.Common.{◌≡◌}
+use Rattle.core_state.proofs.Common.{Call, Called, Client, Follows, Forest, In-all, List, Mark, None, Parts, Reply, State, TakesEffect}
+use Rattle.core_state.proofs.Common.{Waiting, [], answer, carried_by, client_by, clients_by, collects, false, false≢true, given_at}
+use Rattle.core_state.proofs.Common.{is_about_handles, is_due, joined_at, map, no_key, readings_of, refl, shuts, spent_by, swept, sym}
+use Rattle.core_state.proofs.Common.{total, tracker_by, true, with_key, without_unkept, work_of, world_in, ℕ, ◌+◌, ◌∙◌, ◌∷◌, ◌≡◌}
 use Rattle.std.proofs.Common.{append-nil}
 use Rattle.core_state.specs.Tasks.{changes_nothing}
 use Rattle.core_state.proofs.forced.Known.{IsKnown}

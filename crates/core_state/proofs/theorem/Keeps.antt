@@ -15,11 +15,10 @@ use Rattle.trackers.specs.Table.{forgetful}
 use Rattle.core_state.specs.Whole.{IsWholeCore}
 use Rattle.core_state.proofs.forced.Known.{IsKnown}
 use Rattle.core_state.proofs.firing.Fields.{is_made}
-use Rattle.core_state.proofs.theorem.GoesOn.{goes_on, shows_nothing, take_shows}
+use Rattle.core_state.proofs.theorem.GoesOn.{filed_now, goes_on, shows_nothing, take_shows}
 use Rattle.core_state.proofs.theorem.Leads.{leads_refused}
 use Rattle.core_state.proofs.theorem.OfHistory.{opened_of, out_of, rising_of, sent_of, sound_of, undue_of}
 use Rattle.core_state.proofs.theorem.Recalling.{follows_recalls, forgetting_shows, leads_on_but}
-use Rattle.core_state.proofs.theorem.Sweeping.{filed_now}
 use Rattle.core_state.proofs.views.SameAnswers.{answer_is}
 use Rattle.core_state.proofs.views.Shown.{events_shown}
 
@@ -118,9 +117,7 @@ module _ (before : Holdings) (old new : State) (client : ℕ) (call : Call) (rep
           In c x.cells) gains.next on)) [
             | inl there ↦ was c there
             | inr (inl made) ↦
-                let id : c.id ≡ t.id = ap (λ (d : Cell). d.id) made in
-                let is_next : t.id ≡ old.events + 1 = number call reply answers.told t is in
-                omega (arith, id, is_next)
+                omega (arith, ap (λ (d : Cell). d.id) made, number call reply answers.told t is)
             | inr (inr none) ↦ absurd none
           ]
 
@@ -130,8 +127,7 @@ module _ (before : Holdings) (old new : State) (client : ℕ) (call : Call) (rep
       (λ t on.
       let kept = In-filter (λ (x : Waiting). not (is_due (world_in f.worked (total new.holds)) x)) f.attached.unfired t
       (subst (λ (x : TrackerTable). In t x.unfired) f.trackers on) in
-      let its : IsOf marks t.collection t.condition =
-      filed_now old marks core.shows.shown old.limits grown core.filed client reply call f.attached f.gains t kept.0 in
+      let its = filed_now old marks core.shows.shown old.limits grown core.filed client reply call f.attached f.gains t kept.0 in
       of_after old.pool old.limits marks (client, call, reply) t.collection t.condition
       (answer_is old marks core.shows.shown old.limits grown old.limits client call reply answers) its)
 
@@ -281,5 +277,4 @@ core_forgot pool s core = record { gone = core.gone ++ s.trackers.fired; whole =
 -- it took no more events than its limit
 pub core_within : (pool : Holdings) (s : State) → IsCore pool s → s.events ≤ s.limits.events
 core_within pool s core =
-    let counted = events_shown (recalling core.gone s) core.whole.history core.whole.shows in
-    omega (arith, counted, core.whole.shows.legal.within)
+    omega (arith, events_shown (recalling core.gone s) core.whole.history core.whole.shows, core.whole.shows.legal.within)

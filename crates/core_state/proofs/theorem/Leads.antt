@@ -12,7 +12,7 @@ use Rattle.forest_store.specs.Forest.{empty_forest}
 use Rattle.core_state.specs.Theorem.{Stops, tracker_told, trackers_told}
 use Rattle.core_state.proofs.answers.Kinds.{reply-fits}
 use Rattle.core_state.proofs.theorem.Runs.{entries-none, entries-push}
-use Rattle.core_state.proofs.forced.Whole.{Named, named}
+use Rattle.core_state.proofs.forced.Forest.{named}
 
 -- ---- one event
 
@@ -21,12 +21,10 @@ tracker_id : (limits : Bound) (s : State) (client : ℕ) (call : Call) (reply : 
     fits_call call reply ≡ true →
     option_map (λ (w : Waiting). w.id) (tracker_by s.forest call reply) ≡ tracker_told reply
 tracker_id limits s client (Call.TrackNode key) (Reply.Tracker id) answer fits =
-    let n : Named s (Call.TrackNode key) (Reply.Tracker id) key =
-    named limits s client no_key (Call.TrackNode key) (Reply.Tracker id) key answer.told refl refl in
+    let n = named limits s client no_key (Call.TrackNode key) (Reply.Tracker id) key answer.told refl refl in
     rw n.at refl
 tracker_id limits s client (Call.TrackLifetime key most) (Reply.Tracker id) answer fits =
-    let n : Named s (Call.TrackLifetime key most) (Reply.Tracker id) key =
-    named limits s client no_key (Call.TrackLifetime key most) (Reply.Tracker id) key answer.told refl refl in
+    let n = named limits s client no_key (Call.TrackLifetime key most) (Reply.Tracker id) key answer.told refl refl in
     rw n.at refl
 tracker_id limits s client (Call.TrackWeak buffer) (Reply.Tracker id) answer fits = refl
 tracker_id limits s client call (Reply.Tracker id) answer fits = cc

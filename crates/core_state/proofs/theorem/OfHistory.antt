@@ -21,15 +21,14 @@ use Rattle.event_laws.proofs.WaitingLaws.{waited_for, waiting_not_due}
 use Rattle.forest_store.specs.Forest.{is_left}
 use Rattle.core_state.specs.Whole.{AreFit, IsNodeFit, IsSound}
 use Rattle.core_state.proofs.forced.Known.{AreSent, AreUpTo, waiting_in}
-use Rattle.core_state.proofs.collections.Ids.{id_root, ids, ids_rise, kept_are}
+use Rattle.core_state.proofs.collections.Replacing.{IsRising, id_root, ids, ids_rise, kept_are, rising-push}
 use Rattle.core_state.proofs.collections.Pages.{sum-map}
-use Rattle.core_state.proofs.collections.Replacing.{IsRising, rising-push}
-use Rattle.core_state.proofs.ends.Forgotten.{left_after}
-use Rattle.core_state.proofs.handles.HeldNames.{held_left}
-use Rattle.core_state.proofs.joined.Numbers.{joined_number}
+use Rattle.core_state.proofs.ends.Transfers.{left_after}
+use Rattle.core_state.proofs.handles.Taken.{held_left}
+use Rattle.core_state.proofs.joined.Rows.{joined_number}
 use Rattle.core_state.proofs.nodes.Members.{of_collection, one_birth}
-use Rattle.core_state.proofs.views.Ends.{strong_live_is, totals_are}
-use Rattle.core_state.proofs.views.ForTrackers.{none_left, over_gone}
+use Rattle.core_state.proofs.views.AfterEvents.{strong_live_is, totals_are}
+use Rattle.core_state.proofs.views.HeldApart.{none_left, over_gone}
 use Rattle.core_state.proofs.views.Nodes.{collection_forgotten, collection_kept, node_forgotten, node_kept, not_unkept, spent_end}
 use Rattle.history_laws.proofs.SumLaws.{sum_by-same}
 
@@ -100,9 +99,8 @@ one_more false n = omega arith
 times-count : {A : Type 0} (test : A → Bool) (xs : List A) → count_by test xs ≡ times test xs
 times-count test [] = refl
 times-count test (x ∷ xs) =
-    let count : count_by test (x ∷ xs) ≡ cond (test x) 1 0 + count_by test xs = sum_by-cons (λ y. cond (test y) 1 0) x xs in
     let here : times test (x ∷ xs) ≡ cond (test x) 1 0 + times test xs = one_more (test x) (times test xs) in
-    count ∙ (ap (λ (n : ℕ). cond (test x) 1 0 + n) (times-count test xs) ∙ sym here)
+    (sum_by-cons (λ y. cond (test y) 1 0) x xs) ∙ (ap (λ (n : ℕ). cond (test x) 1 0 + n) (times-count test xs) ∙ sym here)
 
 -- ---- the state
 
@@ -161,8 +159,7 @@ module _ (s : State) (marks : Timeline) (shown : IsAfter s marks) (limits : Boun
       let k = kept_of c on in
       let r = id_root (births marks) k.0 k.1 in
       let early : r.0.collection ≤ events marks = (ordered s.pool limits marks grown).early r.0 r.1 in
-      let same : c.id ≡ r.0.collection = ap (λ (x : Collection). x.id) k.3 ∙ sym r.3 in
-      omega (arith, early, same, shown.events)
+      omega (arith, early, ap (λ (x : Collection). x.id) k.3 ∙ sym r.3, shown.events)
 
   -- a node failed or was released if it is gone, and its end is spent if it was released
   fit_of : (c : Collection) → In c s.forest.collections → AreFit (λ key. given s.forest key ≡ true) c.id c.nodes
@@ -199,8 +196,7 @@ module _ (s : State) (marks : Timeline) (shown : IsAfter s marks) (limits : Boun
       let k = kept_of c on in
       let keep : Node → Bool = λ n. not (is_unkept n) in
       let nodes : List Node = nodes_after marks k.0 in
-      let still : filter keep (filter keep nodes) ≡ filter keep nodes =
-      filter-all keep (filter keep nodes) (λ n there. (In-filter keep nodes n there).1) in
+      let still = filter-all keep (filter keep nodes) (λ n there. (In-filter keep nodes n there).1) in
       subst IsTidy (sym k.3) (record {
         tidied = λ i. record (collection_after s.pool marks k.0) { nodes = still i };
         kept = not-true (is_left (collection_after s.pool marks k.0)) (left_after s.pool limits marks grown k.0 ∙ k.2);
@@ -293,8 +289,7 @@ module _ (s : State) (marks : Timeline) (shown : IsAfter s marks) (limits : Boun
   pub undue_of : All (λ (t : Waiting). IsOf marks t.collection t.condition) s.trackers.unfired →
       All (λ (t : Waiting). is_due (world_in s.forest (total s.holds)) t ≡ false) s.trackers.unfired
   undue_of filed = all-In (λ (t : Waiting). is_due (world_in s.forest (total s.holds)) t ≡ false) s.trackers.unfired (λ t on.
-      let its : IsOf marks t.collection t.condition = In-all (λ (x : Waiting). IsOf marks x.collection x.condition) s.trackers.unfired filed
-      t on in
+      let its = In-all (λ (x : Waiting). IsOf marks x.collection x.condition) s.trackers.unfired filed t on in
       let told : In (tracked_as t) (unfired_trackers marks) =
       subst (In (tracked_as t)) shown.trackers.waiting (In-map-back tracked_as s.trackers.unfired t on) in
       not_yet t.collection t.condition its (waited_for marks (tracked_as t) told) (waiting_not_due marks (tracked_as t) told))

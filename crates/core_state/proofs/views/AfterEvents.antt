@@ -1,30 +1,179 @@
--- After the work of an event the forest has what trackers look at.
-use Rattle.core_state.proofs.Common.{Birth, Bool, Bound, Call, Called, Collection, EndPlace, Forest, Grows, Handles, In-filter}
-use Rattle.core_state.proofs.Common.{In-filter-back, In-map, In-map-back, In_old, Interval, IsAfter, IsAnswer, List, Node, None, Option}
-use Rattle.core_state.proofs.Common.{Reply, Settled, State, Timeline, Work, [], after, allocated, ap, beside, birth_at, births, births_in}
-use Rattle.core_state.proofs.Common.{both_ways, buffers_of, collection_after, cond, end_by, eqb-true, events, false, given_back, gone}
-use Rattle.core_state.proofs.Common.{held_after, inl, inr, is_kept, is_kept_collection, is_unkept, kept-after, length, map, members}
-use Rattle.core_state.proofs.Common.{members_of, new_key, next_forced, node_after, nodes_after, not, or_cases, or_none_left}
-use Rattle.core_state.proofs.Common.{or_none_right, place_of, readings, refl, some_strong_live, strong-left, subst, sym, true, whole, ℕ}
-use Rattle.core_state.proofs.Common.{◌+◌, ◌==◌, ◌||◌, ◌∙◌, ◌∷◌, ◌≡◌}
+-- The ends that a core keeps read as those of the marks. After the work of an event the forest has what trackers look at.
+use Rattle.core_state.proofs.Common.{Birth, Bool, Bound, BufferName, Buffers, Call, Called, Collection, End, EndPlace, Forest, Grows}
+use Rattle.core_state.proofs.Common.{HandleCounts, Handles, In-filter, In-filter-back, In-map, In-map-back, In_old, Interval, IsAfter}
+use Rattle.core_state.proofs.Common.{IsAnswer, List, Member, Node, NodeKey, None, OpenEnd, Option, Reply, Settled, Some, State, Strength}
+use Rattle.core_state.proofs.Common.{Timeline, Work, [], after, allocated, any-left, ap, beside, birth_at, birth_is, birth_of, births}
+use Rattle.core_state.proofs.Common.{births_in, both_ways, buffers_in, buffers_of, collection_after, cond, constraints, doomed, end_after}
+use Rattle.core_state.proofs.Common.{end_by, end_in, eqb-true, events, false, fault, filter, filter-In, given_back, gone, held_after}
+use Rattle.core_state.proofs.Common.{holder, in_transit, inl, inr, is_doomed, is_kept, is_kept_collection, is_some, is_spent, is_taking}
+use Rattle.core_state.proofs.Common.{is_tracking, is_unkept, kept-after, length, list_any, map, member, member_of, members, members_of}
+use Rattle.core_state.proofs.Common.{names, new_key, next_forced, node_after, node_at, nodes_after, not, open_end, open_end_of}
+use Rattle.core_state.proofs.Common.{open_total, option_and_then, option_map_or, or_cases, or_none_left, or_none_right, place_of}
+use Rattle.core_state.proofs.Common.{range_with_len, readings, refl, some_strong_live, spent, strong-left, subst, sym, times, to_open_in}
+use Rattle.core_state.proofs.Common.{total, true, weak, whole, ℕ, ◌&&◌, ◌+◌, ◌==◌, ◌||◌, ◌∙◌, ◌∷◌, ◌≡◌}
+use Rattle.std.specs.Option.{option_map}
+use Rattle.std.proofs.Math.Bool.{or-true}
+use Rattle.sm_names.specs.Ends.{kind}
+use Rattle.sm_names.specs.Handles.{buffer_names}
+use Rattle.sm_names.specs.Members.{is_live}
+use Rattle.sm_names.specs.Weakness.{weak_ok}
 use Rattle.sm_names.proofs.ListLaws.{In}
-use Rattle.core_state.proofs.forced.CallStep.{IsIdle}
-use Rattle.core_state.proofs.ends.NotRead.{placed_in, placed_node, members_placed}
-use Rattle.core_state.proofs.handles.HeldNames.{held_left}
-use Rattle.core_state.proofs.collections.Ids.{ids, kept_are, root_id}
+use Rattle.core_state.specs.Reads.{holder_of, is_moving}
+use Rattle.core_state.proofs.lists.Maps.{list_any-map}
+use Rattle.core_state.proofs.views.Nodes.{collection_kept, node_forgotten, node_kept, node_unknown, not_unkept, spent_end}
+use Rattle.core_state.proofs.collections.Roots.{HasRoot, collection_of_kept, kept_root}
+use Rattle.core_state.proofs.forced.Starting.{IsIdle}
+use Rattle.core_state.proofs.ends.NotRead.{members_placed, placed_in, placed_node}
+use Rattle.core_state.proofs.handles.Taken.{held_left}
+use Rattle.core_state.proofs.collections.Replacing.{ids, kept_are, root_id, with_new}
 use Rattle.core_state.proofs.forced.NothingForced.{comes_to, follows_called, held_same, idle_after}
 use Rattle.core_state.proofs.nodes.Ancestors.{nodes_kept}
 use Rattle.core_state.proofs.theorem.Follows.{Counts, Matches, members_match}
 use Rattle.core_state.proofs.nodes.Members.{in_order}
-use Rattle.core_state.proofs.collections.Replacing.{with_new}
-use Rattle.core_state.proofs.views.Ends.{strong_live_is}
-use Rattle.core_state.proofs.views.Nodes.{not_unkept}
-use Rattle.core_state.proofs.collections.Roots.{HasRoot, kept_root}
 use Rattle.core_state.proofs.views.Forests.{AreStanding, Stands, standing_seen}
-use Rattle.core_state.proofs.views.ForTrackers.{IsSeen}
+use Rattle.core_state.proofs.views.HeldApart.{IsSeen}
 use Rattle.core_state.proofs.forced.Settled.{counts_on}
-use Rattle.core_state.proofs.forced.Work.{Starts, grown_later, kept_elsewhere, out_held, out_listed, out_matches, same_elsewhere}
-use Rattle.core_state.proofs.forced.Work.{worked_are}
+use Rattle.core_state.proofs.forced.Change.{Starts, grown_later, kept_elsewhere, out_held, out_listed, out_matches, same_elsewhere}
+use Rattle.core_state.proofs.forced.Change.{worked_are}
+
+-- ---- the nodes that are live and strong
+
+-- the node is live and strong
+abbrev pub is_strong_live : Node → Bool
+is_strong_live n = (not n.gone && not n.released) && not n.weak
+
+-- some node is live and strong exactly if some of those that are not gone is
+strong_members : (nodes : List Node) → some_strong_live (members_of nodes) ≡ list_any is_strong_live nodes
+strong_members nodes =
+    list_any-map (λ (m : Member). is_live m && not m.weak) (member_of nodes) (filter (λ n. not n.gone) nodes)
+    ∙ any-left is_strong_live (λ n. not n.gone) nodes (λ n on lost. rw lost refl)
+
+-- so the nodes that are over tell nothing of it
+strong_kept : (nodes : List Node) → list_any is_strong_live (filter (λ n. not (is_unkept n)) nodes) ≡ list_any is_strong_live nodes
+strong_kept nodes = any-left is_strong_live (λ n. not (is_unkept n)) nodes
+    (λ n on over. not_kept n.gone n.released n.weak (is_spent n.end) over)
+  where
+    -- by cases: a strong node that is over is gone
+    not_kept : (g r w s : Bool) → not (g && s) ≡ false → ((not g && not r) && not w) ≡ false
+    not_kept true r w s over = refl
+    not_kept false r w s over = cc
+
+-- the kept nodes of a collection tell whether some node of it is live and strong
+pub strong_live_is : (pool : ℕ) (marks : Timeline) (collection : ℕ) →
+    some_strong_live (members_of (collection_after pool marks collection).nodes) ≡ some_strong_live (members marks collection)
+strong_live_is pool marks collection =
+    strong_members (collection_after pool marks collection).nodes
+    ∙ (strong_kept (nodes_after marks collection)
+    ∙ (list_any-map is_strong_live (node_after marks) (births_in marks collection)
+    ∙ sym (list_any-map (λ (m : Member). is_live m && not m.weak) (member marks) (births_in marks collection))))
+
+-- ---- where the end is
+
+-- its holder
+holder_is : (marks : Timeline) (node : NodeKey) → spent marks node ≡ false → holder_of (end_after marks node) ≡ holder marks node
+holder_is marks node e =
+    rw e (elim (in_transit marks node) as (λ (b : Bool).
+    holder_of (cond b (End.InTransit (holder marks node)) (End.Held (holder marks node))) ≡ holder marks node)
+    [ true ↦ refl | false ↦ refl ])
+
+-- whether it is in a parcel
+moving_is : (marks : Timeline) (node : NodeKey) → spent marks node ≡ false → is_moving (end_after marks node) ≡ in_transit marks node
+moving_is marks node e =
+    rw e (elim (in_transit marks node) as (λ (b : Bool).
+    is_moving (cond b (End.InTransit (holder marks node)) (End.Held (holder marks node))) ≡ b) [ true ↦ refl | false ↦ refl ])
+
+-- ---- what can be opened
+
+-- of a collection that was given buffers, those are doomed that neither a strong handle nor a strong live node keeps
+doomed_is : (marks : Timeline) (collection : ℕ) (given : Buffers) → buffers_of marks collection ≡ Some given →
+    (name : BufferName) → In name (names collection given.count) →
+    doomed marks name ≡ is_doomed (open_total marks name Strength.Strong) (some_strong_live (members marks collection))
+doomed_is marks collection given e name on =
+    let r = In-map (λ i. record { collection = collection; index = i }) (range_with_len 0 given.count) name on in
+    let is : name.collection ≡ collection = ap (λ (x : BufferName). x.collection) r.2 in
+    λ i. is_some ((ap (buffers_of marks) is ∙ e) i) && is_doomed (open_total marks name Strength.Strong)
+    (some_strong_live (members marks (is i)))
+
+module _ (s : State) (marks : Timeline) (shown : IsAfter s marks) (limits : Bound) (grown : Grows s.pool limits [] marks) where
+  -- the buffers of a kept collection
+  buffers_are : (collection : ℕ) → is_kept_collection marks collection ≡ true → buffers_in s collection ≡ buffers_of marks collection
+  buffers_are collection kept = rw (collection_kept s marks shown limits grown collection kept) refl
+
+  -- the handles that are open
+  pub totals_are : total s.holds ≡ open_total marks
+  totals_are = ap (λ (h : HandleCounts). h.total) shown.handles
+
+  -- and those of them that can be opened
+  to_open_is : (collection : ℕ) → is_kept_collection marks collection ≡ true →
+      to_open_in s collection ≡ filter (λ name. not (doomed marks name)) (buffer_names marks collection)
+  to_open_is collection kept = rw (collection_kept s marks shown limits grown collection kept) (by (buffers_of marks collection) refl)
+    where
+      by : (o : Option Buffers) → buffers_of marks collection ≡ o →
+          filter (λ b. not (is_doomed (total s.holds b Strength.Strong)
+          (some_strong_live (members_of (collection_after s.pool marks collection).nodes)))) (option_map_or (λ (b : Buffers).
+          names collection b.count) o [])
+          ≡ filter (λ name. not (doomed marks name)) (option_map_or (λ (b : Buffers). names collection b.count) o [])
+      by None e = refl
+      by (Some given) e =
+          filter-In (λ b. not (is_doomed (total s.holds b Strength.Strong)
+          (some_strong_live (members_of (collection_after s.pool marks collection).nodes)))) (λ name. not (doomed marks name))
+          (names collection given.count)
+          (λ name on.
+          (λ i. not (is_doomed (totals_are i name Strength.Strong) (strong_live_is s.pool marks collection i)))
+          ∙ ap not (sym (doomed_is marks collection given e name on)))
+
+  -- ---- the end of a node
+
+  -- a node whose end is not spent is kept
+  unspent_kept : (node : NodeKey) → spent marks node ≡ false → is_kept marks node ≡ true
+  unspent_kept node e = rw e (or-true (not (gone marks node)))
+
+  -- the end of a node that is not spent reads the same
+  pub open_end_is : (b : Birth) → In b (births marks) → spent marks b.node ≡ false → open_end_of s (node_after marks b) ≡ open_end marks b
+  open_end_is b on e =
+      let kept : is_kept_collection marks b.collection ≡ true = collection_of_kept marks b on (unspent_kept b.node e) in
+      λ i. record {
+        holder = holder_is marks b.node e i;
+        in_transit = moving_is marks b.node e i;
+        kind = kind marks b.node;
+        collection = b.collection;
+        fault = fault marks b.node;
+        constrained = is_some (constraints marks b.node);
+        weak = weak marks b.node;
+        weak_ok = weak_ok marks b.node;
+        took = list_any (is_taking b.node) marks;
+        node_trackers = times (is_tracking b.node) marks;
+        buffers = cond (allocated marks b.node) (buffers_are b.collection kept i) None;
+        to_open = cond (allocated marks b.node) (to_open_is b.collection kept i) [];
+      }
+
+  -- so the ends read the same
+  pub end_is : (key : NodeKey) → end_in s key ≡ (readings marks).end_of key
+  end_is key = from (birth_of marks key) (spent marks key) refl refl
+    where
+      from : (o : Option Birth) (b : Bool) → birth_of marks key ≡ o → spent marks key ≡ b →
+          option_and_then (λ (n : Node). cond (is_spent n.end) None (Some (open_end_of s n))) (node_at s.forest key) ≡ cond
+          (spent marks key) None (option_map (open_end marks) (birth_of marks key))
+      from None b e h = rw (node_unknown s marks shown limits grown key e, e) (nothing (spent marks key))
+        where
+          nothing : (b : Bool) → ◌≡◌ {A = Option OpenEnd} None (cond b None None)
+          nothing true = refl
+          nothing false = refl
+      from (Some b) false e h =
+          let here = birth_is marks key b e in
+          let left : spent marks b.node ≡ false = ap (spent marks) here.1 ∙ h in
+          let free : is_spent (end_after marks b.node) ≡ false = spent_end marks b.node ∙ left in
+          rw (node_kept s marks shown limits grown key b e (unspent_kept key h), e, h, free) (ap Some (open_end_is b here.0 left))
+      from (Some b) true e h = rw h (over b (is_kept marks key) refl e h)
+        where
+          over : (b : Birth) (k : Bool) → is_kept marks key ≡ k → birth_of marks key ≡ Some b → spent marks key ≡ true →
+              option_and_then (λ (n : Node). cond (is_spent n.end) None (Some (open_end_of s n))) (node_at s.forest key) ≡ None
+          over b true kept e h =
+              let here = birth_is marks key b e in
+              rw (node_kept s marks shown limits grown key b e kept, spent_end marks b.node ∙ (ap (spent marks) here.1 ∙ h)) refl
+          over b false lost e h = rw (node_forgotten s marks shown limits grown key lost) refl
+
+-- ---- after the work of an event the forest has what trackers look at
 
 module _ (s : State) (marks : Timeline) (shown : IsAfter s marks) (limits : Bound) (grown : Grows s.pool limits [] marks) (client : ℕ)
     (reply : Reply) (call : Call)
@@ -86,10 +235,8 @@ module _ (s : State) (marks : Timeline) (shown : IsAfter s marks) (limits : Boun
         is_kept marks x.key) (nodes_after later c.id) (put n) there).0 in
         as_told (put n) b.0 b.2;
     found = λ b on ours kept.
-        let there : In (node_after later b) (nodes_after later c.id) =
-        In-map-back (node_after later) (births_in later c.id) b (in_order later c.id b (still_born b on) ours) in
-        let left : In (node_after later b) (nodes_kept (is_kept marks) later c.id) =
-        In-filter-back (λ (x : Node). is_kept marks x.key) (nodes_after later c.id) (node_after later b) there kept in
+        let there = In-map-back (node_after later) (births_in later c.id) b (in_order later c.id b (still_born b on) ours) in
+        let left = In-filter-back (λ (x : Node). is_kept marks x.key) (nodes_after later c.id) (node_after later b) there kept in
         let n = In-map put c.nodes (node_after later b) (subst (In (node_after later b)) (sym m.nodes) left) in
         (n.0, n.1, sym (ap (λ (x : Node). x.key) n.2));
   }

@@ -7,8 +7,8 @@ use Rattle.core_state.proofs.Common.{same_key-refl, same_key-true, subst, sym, t
 use Rattle.sm_names.proofs.ListLaws.{In}
 use Rattle.core_state.proofs.collections.Roots.{collection_of_kept}
 use Rattle.core_state.proofs.theorem.Follows.{Counts}
-use Rattle.core_state.proofs.forced.Forest.{node_in, in_all_nodes}
-use Rattle.core_state.proofs.views.ForTrackers.{IsUnkept, IsSeen, IsThere, SeesCollection, SeesNode}
+use Rattle.core_state.proofs.forced.Forest.{in_all_nodes, node_in}
+use Rattle.core_state.proofs.views.HeldApart.{IsSeen, IsThere, IsUnkept, SeesCollection, SeesNode}
 
 -- where nothing is found, no element passes
 find_misses : {A B : Type 0} (test : A → Bool) (xs : List A) (x : A) → find test xs ≡ None → In x xs → test x ≡ true → B
@@ -87,8 +87,7 @@ module _ (marks later : Timeline) where
               let b = In-list_any (λ (b : Birth). same_key b.node key) (births marks) born in
               let is : b.0.node ≡ key = same_key-true b.0.node key b.2 in
               let n = kept_found b.0 b.1 (ap (is_kept marks) is ∙ kept) in
-              let same : n.0.key ≡ key = n.2 ∙ is in
-              find_misses (is_of key) (all_nodes worked) n.0 e n.1 (ap (λ (k : NodeKey). same_key k key) same ∙ same_key-refl key)
+              find_misses (is_of key) (all_nodes worked) n.0 e n.1 (ap (λ (k : NodeKey). same_key k key) (n.2 ∙ is) ∙ same_key-refl key)
         ]
 
     -- so what trackers look at is seen

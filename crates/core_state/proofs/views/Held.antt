@@ -14,10 +14,9 @@ use Rattle.history_laws.proofs.HeldLaws.{are_held}
 use Rattle.sm_names.proofs.ListLaws.{In}
 use Rattle.buffer_pool.specs.Holdings.{IsSound, in_order}
 use Rattle.forest_store.specs.Forest.{held_by_page as held_in}
-use Rattle.core_state.proofs.lists.Parts.{mixed_parts}
-use Rattle.core_state.proofs.lists.Reorderings.{Mixed, In-mixed_back, sum_by-mixed}
+use Rattle.core_state.proofs.lists.Reorderings.{In-mixed_back, Mixed, mixed_parts, sum_by-mixed}
 use Rattle.core_state.proofs.collections.Roots.{listed_once}
-use Rattle.core_state.proofs.lists.ByNumber.{AreNumbered, sorted-mixed, mixed_sorted}
+use Rattle.core_state.proofs.lists.ByNumber.{AreNumbered, mixed_sorted, sorted-mixed}
 
 -- ---- which are held
 
@@ -26,15 +25,12 @@ module _ (pool : ℕ) (limits : Bound) (marks : Timeline) (grown : Grows pool li
   held_named : (h : HeldBuffer) → In h (held pool marks) → In h.buffer (buffer_names marks h.buffer.collection) ×
       (not (home marks h.buffer) ≡ true)
   held_named h on =
-      let there : list_any (λ (k : HeldBuffer). same_buffer k.buffer h.buffer) (held pool marks) ≡ true =
-      In-any (λ (k : HeldBuffer). same_buffer k.buffer h.buffer) (held pool marks) h on (same_buffer-refl h.buffer) in
-      let both : (list_any (λ b. same_buffer b h.buffer) (buffer_names marks h.buffer.collection) && not (home marks h.buffer)) ≡ true =
-      sym (stands_held pool limits marks grown h.buffer) ∙ there in
+      let there = In-any (λ (k : HeldBuffer). same_buffer k.buffer h.buffer) (held pool marks) h on (same_buffer-refl h.buffer) in
+      let both = sym (stands_held pool limits marks grown h.buffer) ∙ there in
       let named = In-list_any (λ b. same_buffer b h.buffer) (buffer_names marks h.buffer.collection)
       (and_left (list_any (λ b. same_buffer b h.buffer) (buffer_names marks h.buffer.collection)) (not (home marks h.buffer)) both) in
-      let is : named.0 ≡ h.buffer = same_buffer-true named.0 h.buffer named.2 in
       let here : In named.0 (buffer_names marks h.buffer.collection) = named.1 in (
-        subst (λ (b : BufferName). In b (buffer_names marks h.buffer.collection)) is here,
+        subst (λ (b : BufferName). In b (buffer_names marks h.buffer.collection)) (same_buffer-true named.0 h.buffer named.2) here,
         and_right (list_any (λ b. same_buffer b h.buffer) (buffer_names marks h.buffer.collection)) (not (home marks h.buffer)) both,
       )
 
@@ -42,8 +38,7 @@ module _ (pool : ℕ) (limits : Bound) (marks : Timeline) (grown : Grows pool li
   pub held_kept : (h : HeldBuffer) → In h (held pool marks) → is_kept_collection marks h.buffer.collection ≡ true
   held_kept h on =
       let n = held_named h on in
-      let some : one (not (home marks h.buffer)) ≤ left marks h.buffer.collection =
-      In-le-sum_by (λ (b : BufferName). one (not (home marks b))) (buffer_names marks h.buffer.collection) h.buffer n.0 in
+      let some = In-le-sum_by (λ (b : BufferName). one (not (home marks b))) (buffer_names marks h.buffer.collection) h.buffer n.0 in
       let more : 1 ≤ left marks h.buffer.collection = omega (arith, some, ap one n.1) in
       let not_none : (left marks h.buffer.collection == 0) ≡ false = false_if (left marks h.buffer.collection == 0) (λ e.
       let none : left marks h.buffer.collection ≡ 0 = eqb-true (left marks h.buffer.collection) 0 e in omega arith) in

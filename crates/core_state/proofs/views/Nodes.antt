@@ -9,10 +9,9 @@ use Rattle.core_state.proofs.Common.{◌≡◌, ◌⊎◌}
 use Rattle.std.specs.Option.{option_map}
 use Rattle.sm_names.proofs.ListLaws.{In}
 use Rattle.history_laws.proofs.SumLaws.{any_one}
-use Rattle.core_state.proofs.lists.Parts.{mixed_turned}
+use Rattle.core_state.proofs.lists.Reorderings.{In-mixed, In-mixed_back, Mixed, mixed_turned}
 use Rattle.core_state.proofs.lists.Maps.{filter-map, filter-reverse, map-flat_map, flat_map-same, find-map, find_only, find_none}
 use Rattle.core_state.proofs.lists.Maps.{find_number}
-use Rattle.core_state.proofs.lists.Reorderings.{Mixed, In-mixed, In-mixed_back}
 use Rattle.core_state.proofs.collections.Roots.{listed_once, listed_kept}
 
 -- ---- nodes that are over
@@ -101,21 +100,18 @@ module _ (s : State) (marks : Timeline) (shown : IsAfter s marks) where
             same_key b.node key ≡ false
         none b on (inr h) = h
         none b on (inl h) =
-            let there : birth_of marks b.node ≡ Some b =
-            find_birth (births marks) b (ordered s.pool limits marks grown).sound (kept_birth b on).0 in
+            let there = find_birth (births marks) b (ordered s.pool limits marks grown).sound (kept_birth b on).0 in
             let clash : Some b ≡ None = sym there ∙ (ap (birth_of marks) (same_key-true b.node key h) ∙ e) in
             cc
     found key (Some b) true e kept =
         let here = birth_is marks key b e in
-        let kept_b : is_kept marks b.node ≡ true = ap (is_kept marks) here.1 ∙ kept in
         let on : In b (kept_by_collection marks) =
         In-mixed_back (kept_births marks) (kept_by_collection marks) b mixed_births (In-filter-back (λ (c : Birth).
-        is_kept marks c.node) (births marks) b here.0 kept_b) in
+        is_kept marks c.node) (births marks) b here.0 (ap (is_kept marks) here.1 ∙ kept)) in
         find_only (λ (c : Birth). same_key c.node key) (kept_by_collection marks) b on (ap (λ (k : NodeKey). same_key k key) here.1
         ∙ same_key-refl key)
         (λ c there h.
-        let same : birth_of marks c.node ≡ Some c =
-        find_birth (births marks) c (ordered s.pool limits marks grown).sound (kept_birth c there).0 in
+        let same = find_birth (births marks) c (ordered s.pool limits marks grown).sound (kept_birth c there).0 in
         let both : Some c ≡ Some b = sym same ∙ (ap (birth_of marks) (same_key-true c.node key h) ∙ e) in
         cc)
     found key (Some b) false e lost =

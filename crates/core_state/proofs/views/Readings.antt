@@ -10,10 +10,10 @@ use Rattle.std.specs.Option.{option_map}
 use Rattle.sm_names.specs.Kept.{kept_nodes, kept_collections}
 use Rattle.sm_names.specs.Trackers.{unfired}
 use Rattle.event_laws.proofs.WaitingLaws.{counted}
-use Rattle.core_state.proofs.joined.Joining.{stranger_not_shut}
+use Rattle.core_state.proofs.joined.Rows.{stranger_not_shut}
 use Rattle.core_state.proofs.lists.Maps.{filter-reverse, find-map, find_number, list_any-map}
 use Rattle.core_state.proofs.lists.Reorderings.{length-mixed}
-use Rattle.core_state.proofs.views.Ends.{end_is}
+use Rattle.core_state.proofs.views.AfterEvents.{end_is}
 use Rattle.core_state.proofs.views.Nodes.{kept_births, kept_by_collection, all_nodes_are, mixed_births}
 
 -- a test that some element passes does not see the order

@@ -3,7 +3,7 @@ use Rattle.forest_steps.proofs.Common.{◌≡◌, refl, ap, sym, ◌∙◌, Bool
 use Rattle.forest_steps.proofs.Common.{Option, Some, None, option_map, list_any, NodeKey, same_key, false_if, same_key-refl}
 use Rattle.forest_steps.proofs.Common.{same_key-true, Table, node_at, Node, list_any-append, Writes, table_with_node}
 use Rattle.forest_steps.proofs.Common.{given_all, IsGivenAt, given_at, IsSameNode, arith, look-changed, parents-written}
-use Rattle.forest_steps.proofs.tables.Rows.{same_on}
+use Rattle.forest_steps.proofs.tables.OfRow.{same_on}
 
 -- each node is as it was otherwise
 pub same_given : (heads keys : List NodeKey) (n : Node) → IsSameNode (given_at heads keys n) n

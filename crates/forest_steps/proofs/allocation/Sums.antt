@@ -1,12 +1,46 @@
+-- The unit of a root that is allocated, with those that follow: what is forced besides stays as it was, and no attached unit is next.
 -- What units ask for that are to be allocated, and what is reserved besides.
-use Rattle.forest_steps.proofs.Common.{◌≡◌, ℕ, refl, ap, sym, ◌∙◌, Bool, true, false, not, ◌&&◌, if◌then◌else◌, ◌⊎◌, inl, inr}
-use Rattle.forest_steps.proofs.Common.{List, [], ◌∷◌, map, Option, Some, None, nat_lt, cons_option, option_and_then, NodeKey}
-use Rattle.forest_steps.proofs.Common.{Demand, In, In-list_any, both_ways, either_way, false_if, In-any, Table, node_at, Node}
-use Rattle.forest_steps.proofs.Common.{nodes_with, filter_map, greatest, written, demands_of, has_buffers, asked_with}
-use Rattle.forest_steps.proofs.Common.{is_in_some, arith, le-ltb, ltb-false, ◌≤◌, ◌+◌, ◌||◌, list_any, sum_by, option_map_or}
-use Rattle.forest_steps.proofs.Common.{same_key, reserved_count, given_all, camped, after_all, camped_sum, amount_map}
+use Rattle.forest_steps.proofs.Common.{Bool, Collection, Demand, In, In-any, In-list_any, IsSound, List, Node, NodeKey, None, Option}
+use Rattle.forest_steps.proofs.Common.{Some, Table, [], after_all, all-In, amount_map, and_left, ap, arith, asked_with, both_ways, camped}
+use Rattle.forest_steps.proofs.Common.{camped_sum, cons_option, demands_of, drop, either_way, false, false_if, filter_map, find, find_map}
+use Rattle.forest_steps.proofs.Common.{given_all, greatest, has_buffers, if◌then◌else◌, inl, inr, is_in_some, is_none, is_ready_node}
+use Rattle.forest_steps.proofs.Common.{is_root_left, is_some, le-ltb, list_all, list_any, ltb-false, map, nat_lt, node_at, nodes_with}
+use Rattle.forest_steps.proofs.Common.{not, option_and_then, option_map_or, refl, reserved_count, same_key, sum_by, sym, true, waiting}
+use Rattle.forest_steps.proofs.Common.{when, written, ℕ, ◌&&◌, ◌+◌, ◌||◌, ◌∙◌, ◌∷◌, ◌≡◌, ◌≤◌, ◌⊎◌}
+use Rattle.std.specs.Option.{option_map}
 use Rattle.forest_store.proofs.lists.Filters.{above_greatest}
-use Rattle.forest_store.proofs.tallies.Reserved.{camped_if, amount_both, reserved_is}
+use Rattle.forest_store.proofs.tallies.Reserved.{amount_both, camped_if, reserved_is}
+
+-- only the first node may be a root
+pub root_found : (ns : List Node) → list_all (λ (n : Node). is_some n.parent) (drop 1 ns) ≡ true → (r : Node) → In r ns →
+    is_root_left r ≡ true → find is_root_left ns ≡ Some r
+root_found [] one r on root = absurd on
+root_found (n ∷ ns) one r (inl is) root =
+    rw (ap is_root_left (sym is) ∙ root) (ap Some (sym is))
+root_found (n ∷ ns) one r (inr on) root = absurd (never r.parent (and_left _ _ root) (all-In _ ns r on one))
+  where
+    -- by cases on the parent
+    never : (o : Option NodeKey) → is_none o ≡ true → is_some o ≡ true → ⊥
+    never None a b = cc
+    never (Some p) a b = cc
+
+module _ {c : Collection} (sound : IsSound c) (hs : List NodeKey) where
+  -- a node once the units with these heads have their buffers
+  abbrev f : Node → Node
+  f = given_all hs
+
+  -- the collection's nodes once the units with these heads have their buffers
+  abbrev after : List Node
+  after = after_all hs c.nodes
+
+  -- no root waits then, if its unit is one of them
+  pub waits_none : (r : Node) → In r c.nodes → is_root_left r ≡ true → list_any (same_key r.head) hs ≡ true → waiting after ≡ None
+  waits_none r on root own =
+      let found = find_map is_root_left _ f c.nodes (λ n. refl) ∙ ap (option_map f) (root_found _ sound.one_root r on root) in
+      ap (option_and_then (λ (x : Node). when (not x.allocated && list_all (is_ready_node x.key) after) x)) found
+      ∙ (λ i. when (not (own i || r.allocated) && list_all (is_ready_node r.key) after) (f r))
+
+-- ---- what units ask for that are to be allocated, and what is reserved besides
 
 -- ---- what is found by keys, one after another
 
@@ -126,10 +160,7 @@ module _ (nodes : List Node) (hs : List NodeKey) (unitwide : (m : Node) → In m
   pub reserved_all : reserved_count (after_all hs nodes)
       ≡ reserved_count nodes + sum_by (λ (d : Demand). d.camping) (demands_of (is_in_some hs) nodes)
   reserved_all =
-      let a = reserved_is (after_all hs nodes) in
-      let b = amount_map camped (given_all hs) nodes in
       let c = amount_both camped (camped_if (is_in_some hs)) (λ m. camped (given_all hs m)) nodes
       (λ m on. weigh_all m.gone _ _ m.constraints (unitwide m on)) in
-      let d = reserved_is nodes in
       let e = camped_sum (is_in_some hs) nodes in
-      omega (arith, a, b, c, d, e)
+      omega (arith, reserved_is (after_all hs nodes), amount_map camped (given_all hs) nodes, c, reserved_is nodes, e)

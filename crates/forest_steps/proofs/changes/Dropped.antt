@@ -1,19 +1,20 @@
--- A collection of which a handle was dropped: nothing is forced in it, and only one buffer is freed.
-use Rattle.forest_steps.proofs.Common.{◌≡◌, ℕ, ◌<◌, ◌==◌, zero, suc, Bool, true, false, ◌&&◌, not, nat_lt, List, [], ◌∷◌, ◌++◌}
-use Rattle.forest_steps.proofs.Common.{map, length, get_or, set, Option, Some, None, option_map, refl, sym, ap, subst, ◌∙◌, ◌⊎◌}
-use Rattle.forest_steps.proofs.Common.{inl, inr, arith, find, filter, AllByRecursion, option_map_or, Interval, HeldBuffer}
-use Rattle.forest_steps.proofs.Common.{either_way, Table, node_at, Entry, Node, Unit, has_strong, Collection, IsStored, IsWhole}
-use Rattle.forest_steps.proofs.Common.{CollectionRow, collection_in, forest_of, nodes_with, place_in, put_row, row_of, rows_of}
-use Rattle.forest_steps.proofs.Common.{members_of, is_root_left, Handles, collection_or_new, put, get_or_default, unwrap_or}
-use Rattle.forest_steps.proofs.Common.{BufferName, Strength, is_home, sorted_by, AreCounted, IsCounted, HaveUnits, decided}
-use Rattle.forest_steps.proofs.Common.{mark_of, are_rest_out, has_given_root, all_held, beside, collection_at, pages_in, Finishes}
-use Rattle.forest_steps.proofs.Common.{Stores, stored, starts_differ, by_page, given_few, is_held_strongly, is_out, pages_held}
-use Rattle.forest_steps.proofs.Common.{given_back, none_calm, forced_made, still_decided, found_filed, found_put, found_whole}
-use Rattle.forest_steps.proofs.Common.{start_of, rows_put, IsPlace, place_is, set_put, put-map, collection_is, row_found}
-use Rattle.forest_steps.proofs.Common.{and-false, same_buffer-true, filter-list_all, Rests, found_counted, strong_told, kept-put}
-use Rattle.forest_steps.proofs.Common.{list_all, is_filed, strong_count, ◌||◌, list_any, Member, is_strong, member_of}
-use Rattle.forest_steps.proofs.Common.{Change, Holdings, IsOutcomeIn, IsPoolOf, all_on, set-get_or}
-use Rattle.sm_names.specs.Members.{some_strong_live, is_live as lives}
+-- A collection of which a handle was dropped: nothing is forced in it, and only one buffer is freed. A row that is put in the place of
+-- another with its id.
+use Rattle.forest_steps.proofs.Common.{AllByRecursion, AreCounted, AreRising, AreUnits, Bool, BufferName, Change, Collection}
+use Rattle.forest_steps.proofs.Common.{CollectionRow, Entry, Finishes, Handles, HasUnits, HaveUnits, HeldBuffer, Holdings, In, In-find}
+use Rattle.forest_steps.proofs.Common.{Interval, IsCounted, IsOutcomeIn, IsPlace, IsPoolOf, IsStored, IsWhole, List, Member, Node, None}
+use Rattle.forest_steps.proofs.Common.{Option, Rests, Some, Stores, Strength, Table, Unit, [], all_at, all_held, all_on, and-false, ap}
+use Rattle.forest_steps.proofs.Common.{are_rest_out, arith, beside, by_page, collection_at, collection_in, collection_is}
+use Rattle.forest_steps.proofs.Common.{collection_or_new, decided, either_way, eq-eqb, eqb-false, eqb-true, false, filter}
+use Rattle.forest_steps.proofs.Common.{filter-list_all, find, forced_made, forest_of, found_counted, found_filed, found_put, found_whole}
+use Rattle.forest_steps.proofs.Common.{get_or, get_or_default, given_back, given_few, has_given_root, has_strong, inl, inr, is_filed}
+use Rattle.forest_steps.proofs.Common.{is_held_strongly, is_home, is_out, is_root_left, is_strong, kept-put, le-ltb, length, list_all}
+use Rattle.forest_steps.proofs.Common.{list_any, map, map-In, mark_of, member_of, members_of, nat_lt, node_at, nodes_with, none_calm, not}
+use Rattle.forest_steps.proofs.Common.{option_map, option_map_or, pages_held, pages_in, place_in, place_is, put, put-map, put_row, refl}
+use Rattle.forest_steps.proofs.Common.{row_found, row_of, rows_of, rows_put, same_buffer-true, set, set-get_or, set_put, sorted_by}
+use Rattle.forest_steps.proofs.Common.{start_of, starts_differ, still_decided, stored, strong_count, strong_told, subst, suc, sym, true}
+use Rattle.forest_steps.proofs.Common.{unwrap_or, zero, ℕ, ◌&&◌, ◌++◌, ◌<◌, ◌==◌, ◌||◌, ◌∙◌, ◌∷◌, ◌≡◌, ◌≢◌, ◌⊎◌}
+use Rattle.sm_names.specs.Members.{is_live as lives, some_strong_live}
 use Rattle.forest_store.proofs.quiescence.Resting.{root_first}
 use Rattle.forest_store.proofs.quiescence.Watched.{strong_lives}
 use Rattle.forest_store.specs.Dropped.{are_others_out}
@@ -100,9 +101,7 @@ kept_root t e strong_open filed whole counts (inl some) = inl (strong_lives (nod
 kept_root t e strong_open filed whole counts (inr none) = inr (elim (either_way (has_given_root t e.keys.items)) [
   | inl is ↦ let opened : not strong_open ≡ false = rw is at none in rw opened (and-false _)
   | inr is ↦
-      let bare : option_map_or (λ (root : Node). root.allocated) (find is_root_left (nodes_with t e.keys.items)) false ≡ false =
-      root_first t _ _ filed whole.sound.one_root is in
-      rw bare refl
+      rw (root_first t _ _ filed whole.sound.one_root is) refl
 ])
 
 module _ (handles : Handles) {t : Table Node} (es : List Entry) (id : ℕ) {at : ℕ} (old : Entry) (told : place_in id es ≡ Some at)
@@ -272,3 +271,75 @@ module _ (handles : Handles) {t : Table Node} (es : List Entry) (id : ℕ) {at :
         same = record { first = refl; nexts = refl; limit = refl; len = refl };
         size = refl;
       }
+
+-- ---- a row that is put in the place of another with its id
+
+-- ---- one row in the place of another with its id
+
+module _ (s new : CollectionRow) (same : new.id ≡ s.id) where
+  -- where it stands
+  here_is : (x : CollectionRow) → (x.id == s.id) ≡ true → (x.id == new.id) ≡ true
+  here_is x e = ap (λ i. x.id == i) same ∙ e
+
+  -- the two rows have one id
+  not_here : (x : CollectionRow) → (x.id == s.id) ≡ false → (x.id == new.id) ≡ false
+  not_here x e = ap (λ i. x.id == i) same ∙ e
+
+  -- a row before it has a smaller id
+  before_it : (x : CollectionRow) (xs : List CollectionRow) → AllByRecursion (λ (later : CollectionRow). x.id < later.id) xs →
+      find (λ (y : CollectionRow). y.id == s.id) xs ≡ Some s → nat_lt new.id x.id ≡ false
+  before_it x xs above on =
+      le-ltb new.id x.id (omega (arith, all_at _ xs above s (In-find _ xs s on).0, same))
+
+  -- by induction: the row stands in the place of the one with its id
+  pub found_there : (ss : List CollectionRow) → AreRising ss → find (λ (x : CollectionRow). x.id == s.id) ss ≡ Some s →
+      find (λ (x : CollectionRow). x.id == new.id) (put_row new ss) ≡ Some new
+  found_there [] rising found = cc
+  found_there (x ∷ xs) rising found = elim (either_way (x.id == s.id)) [
+    | inl e ↦
+        rw (here_is x e, eq-eqb _ _ refl) refl
+    | inr e ↦
+        let on : find (λ (y : CollectionRow). y.id == s.id) xs ≡ Some s = rw e at found in
+        let other = not_here x e in
+        rw (other, before_it x xs rising.0 on, other) (found_there xs rising.1 on)
+  ]
+
+  -- by induction: each other row stays
+  pub all_there : (P : CollectionRow → Type 0) (ss : List CollectionRow) → AreRising ss →
+      find (λ (x : CollectionRow). x.id == s.id) ss ≡ Some s → P new →
+      AllByRecursion P ss → AllByRecursion P (put_row new ss)
+  all_there P [] rising found own all = cc
+  all_there P (x ∷ xs) rising found own all = elim (either_way (x.id == s.id)) [
+    | inl e ↦ let is = here_is x e in rw is (own, all.1)
+    | inr e ↦
+        let on : find (λ (y : CollectionRow). y.id == s.id) xs ≡ Some s = rw e at found in
+        rw (not_here x e, before_it x xs rising.0 on) (all.0, all_there P xs rising.1 on own all.1)
+  ]
+
+  -- by induction: each other collection stays
+  pub units_there : (us : List Unit) (t : Table Node) (ss : List CollectionRow) → AreRising ss →
+      find (λ (x : CollectionRow). x.id == s.id) ss ≡ Some s → HasUnits us (nodes_with t new.keys) →
+      AreUnits us (map (collection_in t) ss) → AreUnits us (map (collection_in t) (put_row new ss))
+  units_there us t [] rising found own all = cc
+  units_there us t (x ∷ xs) rising found own all = elim (either_way (x.id == s.id)) [
+    | inl e ↦ let is = here_is x e in rw is (own, all.1)
+    | inr e ↦
+        let on : find (λ (y : CollectionRow). y.id == s.id) xs ≡ Some s = rw e at found in
+        rw (not_here x e, before_it x xs rising.0 on) (all.0, units_there us t xs rising.1 on own all.1)
+  ]
+
+  -- the others stay
+  pub put_there : (t now : Table Node) (ss : List CollectionRow) → AreRising ss → find (λ (x : CollectionRow). x.id == s.id) ss ≡ Some s →
+      ((x : CollectionRow) → In x ss → x.id ≢ s.id → collection_in now x ≡ collection_in t x) →
+      map (collection_in now) (put_row new ss) ≡ put (collection_in now new) (map (collection_in t) ss)
+  put_there t now [] rising found each = cc
+  put_there t now (x ∷ xs) rising found each = elim (either_way (x.id == s.id)) [
+    | inl e ↦
+        let rest = map-In _ _ xs (λ y on. each y (inr on) (λ one.
+        omega (arith, all_at _ xs rising.0 y on, eqb-true _ _ e, one))) in
+        rw (here_is x e) (λ i. collection_in now new ∷ rest i)
+    | inr e ↦
+        let on : find (λ (y : CollectionRow). y.id == s.id) xs ≡ Some s = rw e at found in
+        let rest = put_there t now xs rising.1 on (λ y there. each y (inr there)) in
+        rw (not_here x e, before_it x xs rising.0 on) (λ i. (each x (inl refl) (eqb-false x.id s.id e)) i ∷ rest i)
+  ]

@@ -129,9 +129,7 @@ module _ {t : Table Node} {nodes : List Node} (tied : IsTied t nodes) where
           is_under (highest (members_of nodes) (member_of nodes x)) (member_of nodes n)) o false
       from None is =
           let x = left_node nodes origin left in
-          let is_it : is_of origin x.node ≡ true = same_key-equal _ _ x.is in
-          let some : is_some (node_of nodes origin) ≡ true =
-          is_some-find (is_of origin) nodes ∙ In-any (is_of origin) nodes x.node x.on is_it in
+          let some = is_some-find (is_of origin) nodes ∙ In-any (is_of origin) nodes x.node x.on (same_key-equal _ _ x.is) in
           let no : is_some {T = Node} None ≡ true = sym (ap is_some is) ∙ some in
           cc
       from (Some x) is =

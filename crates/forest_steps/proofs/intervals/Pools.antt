@@ -11,8 +11,7 @@ pub pool_beside : (held : List Interval) (t : Table Node) (s : CollectionRow) (s
     held ≡ sorted_by start_of (pages_in (collection_in t s) ++ beside (forest_of t ss) s.id)
 pool_beside held t s ss rising parted is =
     let all = pages_held (map (collection_in t) (put_row s ss)) ∙ ap (flat_map pages_in) (put-map t s ss) in
-    let told : held ≡ sorted_by start_of (flat_map pages_in (put (collection_in t s) (map (collection_in t) ss))) =
-    is ∙ ap (sorted_by start_of) all in
+    let told = is ∙ ap (sorted_by start_of) all in
     let apart = sym (parted-sorted (flat_map pages_in (put (collection_in t s) (map (collection_in t) ss)))) ∙ ap starts_differ (sym told)
     ∙ parted in
     told ∙ (pages-put t _ ss rising).sorted apart

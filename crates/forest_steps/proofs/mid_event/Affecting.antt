@@ -199,15 +199,13 @@ module _ {t : Table Node} {us : List Unit} {ss : List CollectionRow} {e : Entry}
           let live_same : bit (is_live_node (made n)) ≡ bit (is_live_node n) = λ i. bit (not (p.gone i) && not (p.released i)) in
           let unready_same : bit (is_unready (made n)) ≡ bit (is_unready n) =
           λ i. bit (not (p.gone i) && (not (p.released i) && not (p.asks i))) in
-          let strong_bit : bit (is_strong (made n)) ≡ bit (is_strong n) = ap bit strong_same in
           let camps : camped (made n) ≡ camped n = camped_plain key _ n plain in
           let lives = live_is t now us key _ n was becomes writes ss s _ may_here within_here in
-          let waits = unready_is t now us key _ n was becomes writes ss s _ may_here within_here in
           let strongs = strong_is t now us key _ n was becomes writes ss s _ may_here in
           let live : (unit_at us n.head.slot).live ≡ times (lives_in n.head) (map made members) = omega (arith, lives, live_same) in
           let unready : (unit_at us n.head.slot).unready ≡ times (waits_in n.head) (map made members) =
-          omega (arith, waits, unready_same) in
-          let strong : e.strong ≡ strong_count (map made members) = omega (arith, strongs, strong_bit) in
+          omega (arith, unready_is t now us key _ n was becomes writes ss s _ may_here within_here, unready_same) in
+          let strong : e.strong ≡ strong_count (map made members) = omega (arith, strongs, ap bit strong_same) in
           let reserved : e.reserved ≡ reserved_count (map made members) = omega (arith, reserved_here, camps, store.reserved) in
           rw (set-get_or us n.head.slot no_unit) at
           (affected_here _ live unready refl e refl refl refl strong reserved)

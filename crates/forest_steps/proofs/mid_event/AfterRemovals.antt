@@ -17,10 +17,10 @@ use Rattle.forest_steps.proofs.mid_event.Crossed.{AreFalling, IsMarked, held_but
 use Rattle.forest_steps.proofs.failures.Ties.{fall_below, fall_root, losses_by_fall}
 use Rattle.forest_store.proofs.tables.KeptRoots.{rooted_end, rooted_loss}
 use Rattle.forest_steps.proofs.mid_event.InRemoval.{beside_same, nodes_then, store_now}
-use Rattle.forest_steps.proofs.mid_event.Owned.{own_taken}
-use Rattle.forest_steps.proofs.mid_event.Tops.{blocks, head_out, parent, stands_first, top, top_here, top_on, up_falls, takes_below}
+use Rattle.forest_steps.proofs.mid_event.EndAbove.{own_taken}
+use Rattle.forest_steps.proofs.mid_event.Tops.{blocks, head_out, parent, stands_first, takes_below, top, top_here, top_on, up_falls}
 use Rattle.forest_steps.proofs.tables.OfRow.{at_key, linked, tied}
-use Rattle.forest_steps.proofs.mid_event.Roots.{below_root}
+use Rattle.forest_steps.proofs.mid_event.Listed.{below_root}
 use Rattle.forest_steps.proofs.mid_event.Ready.{whole_under}
 
 module _ {t : Table Node} {us : List Unit} {ss : List CollectionRow} {old : Entry} {unheld pending : List NodeKey}
@@ -66,8 +66,7 @@ module _ {t : Table Node} {us : List Unit} {ss : List CollectionRow} {old : Entr
   bare_new none = ap (list_any has_buffers) nodes_new ∙ false_if _ (λ h.
       let x = In-list_any has_buffers (map goes nodes) h in
       let y = In-map goes nodes x.0 x.1 in
-      let was : has_buffers y.0 ≡ true = served_was y.0 (ap has_buffers (sym y.2) ∙ x.2) in
-      both_ways _ (In-any has_buffers nodes y.0 y.1 was)
+      both_ways _ (In-any has_buffers nodes y.0 y.1 (served_was y.0 (ap has_buffers (sym y.2) ∙ x.2)))
       (opens.bare (sym (ap (λ (x : CollectionRow). x.buffers) gone.row) ∙ none)))
     where
       served_was : (n : Node) → has_buffers (goes n) ≡ true → has_buffers n ≡ true
@@ -161,19 +160,15 @@ module _ {t : Table Node} {us : List Unit} {ss : List CollectionRow} {old : Entr
       guard = elim (either_way highest.attached) [
         | inl e ↦ inl e
         | inr e ↦ inr (λ h on is.
-            let block : is_blocking highest ≡ true =
-            blocks opens.store.kept opens.store.found gone.forest left gone.taken up in
+            let block = blocks opens.store.kept opens.store.found gone.forest left gone.taken up in
             let given : highest.allocated ≡ true = allocated_by highest.attached highest.dispensable highest.allocated e block in
             let no_head : is_head highest ≡ false = (λ i. is_none (up i) || highest.attached) ∙ e in
             let q = shared (whole_under opens) _ highest_on highest_here no_head up_over in
-            let unit : highest.head ≡ h.key =
-            sym q.3 ∙ (ap (λ (n : Node). n.head) (over_one q.0 q.1 q.2) ∙ sym is) in
+            let unit = sym q.3 ∙ (ap (λ (n : Node). n.head) (over_one q.0 q.1 q.2) ∙ sym is) in
             let x = head_there (whole_under opens) _ above.on above.here in
             let same : x.0 ≡ h = distinct_one nodes (whole_under opens).sound.distinct x.0 h x.1 on (x.2 ∙ sym is) in
-            let head : is_head h ≡ true = ap is_head (sym same) ∙ x.4 in
-            let here : h.gone ≡ false = ap (λ (n : Node). n.gone) (sym same) ∙ x.3 in
             sym ((whole_under opens).together.alike highest h highest_on on unit
-            (own_head (whole_under opens) h on head) here) ∙ given)
+            (own_head (whole_under opens) h on (ap is_head (sym same) ∙ x.4)) (ap (λ (n : Node). n.gone) (sym same) ∙ x.3)) ∙ given)
       ]
         where
           allocated_by : (a d b : Bool) → a ≡ false → (a || (d && b)) ≡ true → b ≡ true
@@ -183,8 +178,7 @@ module _ {t : Table Node} {us : List Unit} {ss : List CollectionRow} {old : Entr
       head_left : is_head_left (map goes nodes) over.head ≡ true
       head_left =
           let x = head_there (whole_under opens) _ above.on above.here in
-          let out : falls x.0.key ≡ false =
-          head_out opens.store.kept opens.store.found gone.forest left gone.taken up x.0 x.1 x.3 x.2 in
+          let out = head_out opens.store.kept opens.store.found gone.forest left gone.taken up x.0 x.1 x.3 x.2 in
           In-any _ _ _ (In-map-back _ _ x.0 x.1)
           (ap (λ (n : Node). is_of over.head n && (not n.gone && is_head n)) (goes_not _ _ x.0 out) ∙ and_both _ _
           (same_key-equal _ _ x.2) (and_both _ _ (ap not x.3) x.4))
@@ -282,8 +276,7 @@ module _ {t : Table Node} {us : List Unit} {ss : List CollectionRow} {old : Entr
       ends_below : (n : Node) → In n nodes_were → n.gone ≡ false → list_any (same_key n.key) keys ≡ is_below nodes_were origin n.key
       ends_below =
           let ties = tied opens.store.kept opens.store.found in
-          let at_o : node_at t origin ≡ Some o.node =
-          ap (node_at t) (sym o.is) ∙ at_key opens.store.kept opens.store.found _ o.on in
+          let at_o = ap (node_at t) (sym o.is) ∙ at_key opens.store.kept opens.store.found _ o.on in
           elim (or_cases _ _ (heads o.node o.on o.is)) [
             | inl none ↦
                 fall_root ties _ left
@@ -301,7 +294,5 @@ module _ {t : Table Node} {us : List Unit} {ss : List CollectionRow} {old : Entr
           by : (n : Node) → In n nodes_were → (n.gone ≡ true) ⊎ (n.gone ≡ false) →
               record n { gone = list_any (same_key n.key) keys || n.gone } ≡ ended nodes_were origin n
           by n on (inl e) =
-              let both : (list_any (same_key n.key) keys || n.gone) ≡ (is_below nodes_were origin n.key || n.gone) =
-              or_right _ _ e ∙ sym (or_right _ _ e) in
-              λ i. record n { gone = both i }
+              λ i. record n { gone = (or_right _ _ e ∙ sym (or_right _ _ e)) i }
           by n on (inr e) = λ i. record n { gone = ends_below n on e i || n.gone }

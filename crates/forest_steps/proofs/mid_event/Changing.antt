@@ -1,29 +1,137 @@
--- One node of a calm collection changes by an effect: only its own unit may be held by nothing then, or come to its turn, and by the counts
--- perhaps none.
-use Rattle.forest_steps.proofs.Common.{◌≡◌, refl, ap, sym, ◌∙◌, true, false, not, ◌&&◌, ◌||◌, ◌⊎◌, inl, inr, is_none, List, [], ◌∷◌}
-use Rattle.forest_steps.proofs.Common.{map, Option, Some, None, not-true, list_any, list_all, find, option_map_or, option_and_then}
-use Rattle.forest_steps.proofs.Common.{NodeKey, same_key, when, In, In-list_any, In-map, In-map-back, and_both, and_left, and_right}
-use Rattle.forest_steps.proofs.Common.{both_ways, either_way, false_if, or_left, or_right, same_key-refl, same_key-true, all_on}
-use Rattle.forest_steps.proofs.Common.{In-any, Node, is_next_node, is_ready_node, is_root_left, is_head, or-true, list_any-map}
-use Rattle.forest_steps.proofs.Common.{hangs_in, is_allocated_node, any_map, all-In, IsSameNode, arith, are_held_except, holds_unit}
-use Rattle.forest_steps.proofs.Common.{is_held, is_next_except, waits_among, find_map, ◌<◌, ◌==◌, subst, times, Table, node_at}
-use Rattle.forest_steps.proofs.Common.{Effect, Entry, Unit, strong_count, unit_at, waits_in, CollectionRow, collection_in, nodes_with}
-use Rattle.forest_steps.proofs.Common.{row_of, affected, Writes, table_with_node, is_unready, is_strong, has_buffers}
-use Rattle.forest_steps.proofs.Common.{same_affected, remains_affected, in_row, distinct_one, EffectMade, AfterEffect, MidEvent}
-use Rattle.forest_steps.proofs.Common.{alone_affected, head, plain_affected, Bool, eqb-false, parent_at, waiting, Handles, Settles}
-use Rattle.forest_steps.proofs.Common.{or_none_left, or_none_right, heads_below, is_held_by, unit_of, is_kept_by, times_map}
-use Rattle.forest_steps.proofs.Common.{or_first, EffectCounts, after_effect, PropagatedFrom, AreCounts, AreCountsThen, KeepsCounts}
-use Rattle.forest_steps.proofs.Common.{below_held, either_holds, lives_held, below_mapped, may_force, strong_then, hangs_mapped}
-use Rattle.std.specs.Option.{option_map}
+-- An effect makes the root's unit ready: what is forced then. One node of a calm collection changes by an effect: only its own unit may
+-- be held by nothing then, or come to its turn, and by the counts perhaps none.
+use Rattle.forest_steps.proofs.Common.{AfterEffect, AllocationOutcome, AreCounts, AreCountsThen, Bool, Buffers, Cause, Collection}
+use Rattle.forest_steps.proofs.Common.{CollectionRow, Decision, Effect, EffectCounts, EffectMade, Entry, Err, Failure, Handles}
+use Rattle.forest_steps.proofs.Common.{HeldBuffer, Holdings, In, In-any, In-list_any, In-map, In-map-back, Interval, IsAllocationOutcome}
+use Rattle.forest_steps.proofs.Common.{IsComing, IsPlacing, IsSameNode, IsSound, KeepsCounts, List, Loses, MidEvent, Node, NodeKey, None}
+use Rattle.forest_steps.proofs.Common.{Ok, Option, Places, PropagatedFrom, Result, Settles, Some, Table, Unit, Writes, [], affected}
+use Rattle.forest_steps.proofs.Common.{after_allocation, after_effect, all-In, all_on, alone_affected, and_both, and_left, and_right}
+use Rattle.forest_steps.proofs.Common.{any_map, ap, are_held_except, arith, below_held, below_mapped, both_ways, by_page, collection_in}
+use Rattle.forest_steps.proofs.Common.{decided, distinct_one, either_holds, either_way, eqb-false, false, false_if, find, find_map}
+use Rattle.forest_steps.proofs.Common.{first_made, first_some, first_step, hangs_in, hangs_mapped, has_buffers, has_strong, head}
+use Rattle.forest_steps.proofs.Common.{heads_below, holds_unit, in_row, inl, inr, is_allocated_node, is_deserted_node, is_head, is_held}
+use Rattle.forest_steps.proofs.Common.{is_held_by, is_kept_by, is_next_except, is_next_node, is_none, is_ready_node, is_root_left}
+use Rattle.forest_steps.proofs.Common.{is_strong, is_unready, laid_out, list_all, list_any, list_any-map, lives_held, made, map, mark_of}
+use Rattle.forest_steps.proofs.Common.{may_force, names, node_at, nodes_with, not, not-true, option_and_then, option_map_or, or-true}
+use Rattle.forest_steps.proofs.Common.{or_first, or_left, or_none_left, or_none_right, or_right, outcome, pages_in, pages_of, parent_at}
+use Rattle.forest_steps.proofs.Common.{places, plain_affected, refl, remains_affected, row_of, same_affected, same_key, same_key-refl}
+use Rattle.forest_steps.proofs.Common.{same_key-true, strong_count, strong_then, subst, sym, table_with_node, times, times_map, true}
+use Rattle.forest_steps.proofs.Common.{unit_at, unit_of, waiting, waits_among, waits_in, wanted_by, wants_of, when, with_buffers, ℕ, ◌&&◌}
+use Rattle.forest_steps.proofs.Common.{◌++◌, ◌<◌, ◌==◌, ◌||◌, ◌∙◌, ◌∷◌, ◌≡◌, ◌⊎◌}
+use Rattle.std.specs.Option.{IfSome, option_map}
+use Rattle.forest_store.specs.Decisions.{IsStep}
+use Rattle.forest_store.proofs.quiescence.Steps.{decided_steps}
+use Rattle.forest_steps.proofs.intervals.Placings.{placed_made, places_sorted, pool_laid, scene_laid}
+use Rattle.forest_steps.proofs.mid_event.Tops.{IsReadyRoot, ready_root}
+use Rattle.forest_steps.proofs.mid_event.Ready.{under_with, unit_told, whole_under}
 use Rattle.forest_store.proofs.quiescence.Keeping.{some_pass}
 use Rattle.forest_store.specs.Due.{has_buffers_at, is_due_at}
 use Rattle.forest_store.proofs.quiescence.Resting.{rests_on, roots_stay}
-use Rattle.forest_steps.proofs.mid_event.Affecting.{live_next, unready_next, below_next, strong_next, look_here}
-use Rattle.forest_steps.proofs.mid_event.Ready.{under_with, unit_told, whole_under}
-use Rattle.forest_steps.proofs.mid_event.RootLost.{IsReadyRoot, ready_root}
-use Rattle.forest_steps.proofs.mid_event.RootMade.{under_held}
+use Rattle.forest_steps.proofs.mid_event.Affecting.{below_next, live_next, look_here, strong_next, unready_next}
 use Rattle.forest_steps.proofs.tables.OfRow.{at_key, linked}
 use Rattle.forest_steps.proofs.tables.Upward.{head_there}
+
+-- where something holds the unit with this head, it is not loose
+module _ {t : Table Node} {us : List Unit} {ss : List CollectionRow} {e : Entry} {head : NodeKey}
+    (unheld : List NodeKey) {pending : List NodeKey}
+    (some : list_any (holds_unit (nodes_with t e.keys.items) head) (nodes_with t e.keys.items) ≡ true)
+    (under : MidEvent t us ss e (head ∷ unheld) pending) where
+  -- the nodes that the table has under the entry's keys
+  abbrev ns : List Node
+  ns = nodes_with t e.keys.items
+
+  -- by cases
+  top : (a b c : Bool) → (a || (b || (not c || true))) ≡ true
+  top a b c = grind arith
+
+  -- the unit that was loose is held, and the others were
+  by : (n : Node) → (same_key n.key head ≡ true) ⊎ (same_key n.key head ≡ false) →
+      (list_any (same_key n.key) (head ∷ unheld) || is_held ns n) ≡ true →
+      (list_any (same_key n.key) unheld || is_held ns n) ≡ true
+  by n (inl e) held =
+      let own : list_any (holds_unit ns n.key) ns ≡ true = rw (same_key-true n.key head e) some in
+      rw own (top (list_any (same_key n.key) unheld) n.gone (is_none n.parent || n.attached))
+  by n (inr e) held = rw e at held
+
+  -- one unit less is loose
+  pub under_held : MidEvent t us ss e unheld pending
+  under_held = under_with under (all_on _ ns (λ n on. by n (either_way (same_key n.key head)) (all-In _ ns n on under.held)))
+      under.next under.root
+
+-- ---- what is forced
+
+-- the third of four is the first, where the others before it are none
+third : (a b c d : Option Decision) {step : Decision} → a ≡ None → b ≡ None → c ≡ Some step → first_some (a ∷ b ∷ c ∷ d ∷ []) ≡ Some step
+third a b c d first second is = rw (first, second, is) refl
+
+-- a root that waits is allocated or lost
+pub coming_decided : {nodes : List Node} (buffers : Option Buffers) (strong_open : Bool) {head : NodeKey} → IsComing nodes head →
+    find (is_deserted_node nodes) nodes ≡ None → decided nodes buffers strong_open ≡ Some (first_step nodes head)
+coming_decided {nodes} buffers strong_open coming no_end = grind (arith, ready_root, third)
+
+-- what the step is made by
+module _ {c : Collection} (sound : IsSound c) {head : NodeKey} (coming : IsComing c.nodes head)
+    (no_end : find (is_deserted_node c.nodes) c.nodes ≡ None) (before after : Holdings) (others : List Interval)
+    (beside_is : before.held ≡ by_page (pages_in c ++ others)) (wants : Result Buffers Failure)
+    (wants_is : wants ≡ wants_of (has_strong c.nodes) (wanted_by head c.nodes)) (verdict : AllocationOutcome)
+    (found : IsAllocationOutcome before after c.id c.held wants verdict) where
+  -- the number and the size of the buffers that the nodes of the unit ask for
+  abbrev want : Buffers
+  want = wanted_by head c.nodes
+
+  -- the number of pages that one of these buffers takes
+  abbrev pages : ℕ
+  pages = pages_of (wanted_by head c.nodes).size
+
+  -- nothing is placed, and the root's loss is the step
+  lost_so : (why : Failure) → wants ≡ Err why →
+      (made before.size others (mark_of before.size (pages_in c ++ others) (Loses head (Cause.Failed why))) c ≡ first_made head verdict c)
+      × (after.held ≡ by_page (pages_in (first_made head verdict c) ++ others))
+  lost_so why is = grind arith
+
+  -- the pool holds the same intervals in another order
+  found_none : places before.size pages want.count before.held ≡ None → places before.size pages want.count (pages_in c ++ others) ≡ None
+  found_none none = grind (arith, places_sorted)
+
+  -- the buffers are placed, or the pool is full, which is the step
+  given_so : wants ≡ Ok want → first_step c.nodes head ≡ Places head want → (v : AllocationOutcome) → verdict ≡ v →
+      IsAllocationOutcome before after c.id c.held (Ok want) v →
+      (made before.size others (mark_of before.size (pages_in c ++ others) (Places head want)) c ≡ first_made head v c)
+      × (after.held ≡ by_page (pages_in (first_made head v c) ++ others))
+  given_so is placing_step (AllocationOutcome.Fails why) v_is told = (
+    ap (λ (o : Option (List ℕ)). made before.size others (outcome head (when (is_none o) Failure.PoolFull)) c) (found_none told.1)
+        ∙ ap (λ (w : Failure). first_made head (AllocationOutcome.Fails w) c) (sym told.0),
+    ap (λ (h : Holdings). h.held) told.2 ∙ beside_is,
+  )
+  given_so is placing_step (AllocationOutcome.Given buffers held) v_is told =
+      let laid = told.1 in
+      let placing : IsPlacing c head want = subst (λ (o : Option Decision). IfSome o (IsStep c))
+      (coming_decided c.buffers false coming no_end ∙ ap Some placing_step) (decided_steps c sound false) in
+      let found_places : places before.size pages want.count (pages_in c ++ others) ≡ Some laid.starts =
+      sym (places_sorted before.size pages want.count (pages_in c ++ others))
+      ∙ (ap (places before.size pages want.count) (sym beside_is) ∙ laid.found) in
+      let held_is : held.items ≡ laid_out pages (names c.id want.count) laid.starts ++ c.held =
+      laid.lies ∙ scene_laid c.id pages want.count laid.starts c.held laid.many in (
+        placed_made before.size others c head want placing found_places
+            ∙ (λ i. record {
+              id = c.id;
+              nodes = after_allocation head c.nodes;
+              buffers = Some (sym told.0 i);
+              held = sym held_is i;
+            }),
+        laid.pool ∙ (ap (with_buffers pages laid.starts) beside_is
+            ∙ (pool_laid c.id pages want.count laid.starts c.held others laid.many
+            ∙ ap (λ (hs : List HeldBuffer). by_page (map (λ (h : HeldBuffer). h.pages) hs ++ others)) (sym held_is))),
+      )
+
+  -- the mark makes of the collection what the verdict says, and the pool holds its pages then
+  pub step_made : (made before.size others (mark_of before.size (pages_in c ++ others) (first_step c.nodes head)) c
+      ≡ first_made head verdict c)
+      × (after.held ≡ by_page (pages_in (first_made head verdict c) ++ others))
+  step_made = grind (arith, given_so, lost_so)
+
+-- ---- one node of a calm collection changes by an effect: only its own unit may be held by nothing then, or come to its turn, and by
+-- the counts perhaps none
 
 -- one of three is not so where not all are
 one_not : (a b d : Bool) → (a && (b && d)) ≡ false → (a ≡ false) ⊎ ((b ≡ false) ⊎ (d ≡ false))
@@ -187,14 +295,13 @@ module _ (nodes : List Node) (f : Node → Node) (same : (n : Node) → IsSameNo
       let rest1 = and_right _ _ h in
       let rest2 = and_right _ _ rest1 in
       let rest3 = and_right _ _ rest2 in
-      let turn = and_left _ _ rest3 in
       let all = and_right _ _ rest3 in
       and_both _ _ (sym (same x).attached ∙ and_left _ _ h)
       (and_both _ _ (ap not (sym (gone x)) ∙ and_left _ _ rest1)
       (and_both _ _ (ap not (sym (alloc x)) ∙ and_left _ _ rest2)
       (and_both _ _
       (sym (ap (λ o. option_map_or (λ p. list_any (is_allocated_node p) now) o false) (same x).parent
-      ∙ turn_same _) ∙ turn) (ready (ap (λ j. list_all (is_ready_node j) now) (sym (same x).key) ∙ all)))))
+      ∙ turn_same _) ∙ (and_left _ _ rest3)) (ready (ap (λ j. list_all (is_ready_node j) now) (sym (same x).key) ∙ all)))))
 
   -- only the unit of the node that changed can have become ready
   next_but : list_any (is_next_except [] nodes) nodes ≡ false → list_any (is_next_except own now) now ≡ false

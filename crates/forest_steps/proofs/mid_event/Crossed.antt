@@ -8,7 +8,7 @@ use Rattle.forest_steps.proofs.Common.{or-true, or_none_right, or_none_left, is_
 use Rattle.forest_steps.proofs.Common.{is_none, or_cases, or_left, or_right, same_key-refl, hangs_in, are_held_except}
 use Rattle.forest_steps.proofs.Common.{holds_unit, is_held, is_next_except, waits_among, hangs_mapped}
 use Rattle.forest_steps.proofs.tables.Upward.{own_head, still_here, by_unit}
-use Rattle.forest_steps.proofs.mid_event.RootLost.{waits_was}
+use Rattle.forest_steps.proofs.mid_event.Tops.{waits_was}
 
 -- nodes fall, of which all but the highest have their parents among them
 pub record AreFalling (c : Collection) (falls : NodeKey → Bool) (top above : Node) : Type 0 where
@@ -206,8 +206,7 @@ module _ {c : Collection} {falls : NodeKey → Bool} {top above : Node} (way : A
           let x = In-list_any _ now e in
           let y = In-map f _ x.0 x.1 in
           let is : is_next_except pending now (f y.0) ≡ true = ap (is_next_except pending now) (sym y.2) ∙ x.2 in
-          let out : not (list_any (same_key y.0.key) pending) ≡ true =
-          ap (λ k. not (list_any (same_key k) pending)) (sym (made.same y.0).key) ∙ and_right _ _ is in
+          let out = ap (λ k. not (list_any (same_key k) pending)) (sym (made.same y.0).key) ∙ and_right _ _ is in
           both_ways _ (In-any _ _ y.0 y.1 (and_both _ _ (next_before y.0 y.1 (and_left _ _ is)) out)) none)
 
       -- a root that waits after waited before

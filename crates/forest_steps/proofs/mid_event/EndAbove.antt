@@ -1,22 +1,109 @@
--- Where nothing holds a unit, the counts tell how far up nothing but the unit below holds one, and the highest of those ends.
-use Rattle.forest_steps.proofs.Common.{◌≡◌, ℕ, zero, suc, ◌≤◌, refl, ap, sym, ◌∙◌, subst, Bool, true, false, ◌||◌, ◌==◌, is_some, inl}
-use Rattle.forest_steps.proofs.Common.{inr, List, [], ◌∷◌, ◌++◌, length, reverse, Option, Some, None, option_map, arith, eq-eqb, eqb-true}
-use Rattle.forest_steps.proofs.Common.{not-true, cons_option, find, list_any, option_and_then, Interval, NodeKey, forced, same_key, times}
-use Rattle.forest_steps.proofs.Common.{when, In, In-find, In-list_any, and_both, and_left, and_right, either_way, or_right, same_key-true}
-use Rattle.forest_steps.proofs.Common.{all_on, Table, node_at, Entry, Node, Unit, lives_in, unit_at, Collection, CollectionRow, all_keys}
-use Rattle.forest_steps.proofs.Common.{collection_in, nodes_with, row_of, is_deserted_node, Handles, Settles, standing, is_head}
-use Rattle.forest_steps.proofs.Common.{ltb-false, or_none_left, or_none_right, table_len, heads_below, is_held_by, unit_of, Ends, decided}
-use Rattle.forest_steps.proofs.Common.{mark_of, pages_in, after_end, is_below, Forces, forced_made, all-In, in_all, looked_there}
-use Rattle.forest_steps.proofs.Common.{distinct_one, left_in, left_node, left_parent, length-reverse, Ended, climbed, AfterSteps}
-use Rattle.forest_steps.proofs.Common.{MidEvent, AfterRemoval, MayGo, are_held_except, holds_unit, is_head_left, is_held, below_held}
-use Rattle.forest_steps.proofs.Common.{either_holds, lives_held, above_short, when-Some, ◌+◌, ◌⊎◌, option_map_or, ◌-◌}
-use Rattle.forest_steps.specs.Climbing.{unit_over, is_held_once}
-use Rattle.forest_steps.proofs.tables.Upward.{line, step, shorter, in_unit_below, head_there}
+-- Forced steps one after another, and the units that had their turn so far. Where nothing holds a unit, the counts tell how far up
+-- nothing but the unit below holds one, and the highest of those ends. What a fault takes is removed from its collection, and what
+-- nothing holds then ends. What a failure takes of a table is of one collection, where parents are.
+use Rattle.forest_steps.proofs.Common.{AfterLoss, AfterRemoval, AfterSteps, AreOrEnd, AreTurns, Bool, Buffers, Collection, CollectionRow}
+use Rattle.forest_steps.proofs.Common.{Contains-from_any, Ended, Ends, Entry, Fault, Forces, Handles, In, In-find, In-list_any, Interval}
+use Rattle.forest_steps.proofs.Common.{IsBeside, IsForest, IsTaken, List, MayGo, MidEvent, Node, NodeKey, None, Option, PendingUnit}
+use Rattle.forest_steps.proofs.Common.{Reach, Reaches, Settles, Some, Table, Unit, Up, [], above_short, after_end, after_loss, all-In}
+use Rattle.forest_steps.proofs.Common.{all_keys, all_of, all_on, and_both, and_left, and_right, ap, are_held_except, arith, below_held}
+use Rattle.forest_steps.proofs.Common.{blocked_at, climbed, collection_in, cons_option, decided, distinct_one, either_holds, either_way}
+use Rattle.forest_steps.proofs.Common.{eq-eqb, eqb-true, false, find, forced, forced_made, heads_below, holds_unit, in_all, inl, inr}
+use Rattle.forest_steps.proofs.Common.{is_abandoned_in, is_below, is_blocking, is_deserted_node, is_head, is_head_left, is_held}
+use Rattle.forest_steps.proofs.Common.{is_held_by, is_some, left_in, left_node, left_parent, length, length-reverse, list_any, lives_held}
+use Rattle.forest_steps.proofs.Common.{lives_in, looked_there, ltb-false, mark_of, node_at, nodes_with, not-true, option_and_then}
+use Rattle.forest_steps.proofs.Common.{option_copied, option_map, option_map_or, or_none_left, or_none_right, or_right, pages_in}
+use Rattle.forest_steps.proofs.Common.{parent_at, refl, reverse, row_of, same_key, same_key-refl, same_key-true, standing, subst, suc}
+use Rattle.forest_steps.proofs.Common.{sym, table_len, times, true, turn_heads, unit_at, unit_of, waits_among, when, when-Some}
+use Rattle.forest_steps.proofs.Common.{with_nodes, zero, ℕ, ◌++◌, ◌+◌, ◌-◌, ◌==◌, ◌||◌, ◌∙◌, ◌∷◌, ◌≡◌, ◌≤◌, ◌⊎◌}
+use Rattle.forest_steps.proofs.tables.OfRow.{child_node, linked, same_on}
+use Rattle.forest_steps.specs.Climbing.{is_held_once, unit_over}
+use Rattle.forest_steps.proofs.tables.Upward.{head_there, in_unit_below, line, shorter, step}
 use Rattle.std.proofs.lemmas.List.{length-append}
 use Rattle.forest_steps.proofs.mid_event.Ending.{AreLoose, begins, climbs, first_deserted, held_now, is_one}
-use Rattle.forest_steps.proofs.mid_event.Ready.{under_with, whole_under, unit_told}
-use Rattle.forest_steps.proofs.mid_event.Leading.{led_none}
-use Rattle.forest_steps.proofs.tables.OfRow.{linked}
+use Rattle.forest_steps.proofs.mid_event.Ready.{under_with, unit_told, whole_under}
+use Rattle.std.proofs.Common.{Bor}
+use Rattle.sm_names.specs.Losses.{Down, Origin}
+use Rattle.forest_store.proofs.tables.Storing.{node_there}
+
+-- ---- steps one after another
+
+-- one after the other
+pub beside_on : {t u now : Table Node} {ss : List CollectionRow} {id : ℕ} → IsBeside t u ss id → IsBeside u now ss id → IsBeside t now ss id
+beside_on one two = record {
+  same = same_on one.same two.same;
+  others = λ x on apart. two.others x on apart ∙ one.others x on apart;
+}
+
+-- where nothing was done
+pub led_none : (handles : Handles) {t : Table Node} {us : List Unit} {ss : List CollectionRow} {e : Entry} {unheld pending : List NodeKey} →
+    MidEvent t us ss e unheld pending → AfterSteps handles t t us ss e e unheld pending
+led_none handles under = record {
+  under = under;
+  row = refl;
+  leads = λ pool others after settles. settles;
+  beside = record { same = record { first = refl; nexts = refl; limit = refl; len = refl }; others = λ x on apart. refl };
+}
+
+-- steps, and then more of them
+pub led_on : {handles : Handles} {t u now : Table Node} {us vs : List Unit} {ss : List CollectionRow} {old e new : Entry}
+    {unheld pending loose' due' : List NodeKey} →
+    AfterSteps handles t u us ss old e unheld pending → AfterSteps handles u now vs ss e new loose' due' →
+    AfterSteps handles t now vs ss old new loose' due'
+led_on {handles} {u} {now} one two = record {
+  under = two.under;
+  row = two.row ∙ one.row;
+  leads = λ pool others after settles. one.leads pool others after
+      (subst (λ s. Reaches pool handles others (collection_in u s) (collection_in now s)) one.row (two.leads pool others)
+      after settles);
+  beside = beside_on one.beside (rw (ap (λ (s : CollectionRow). s.id) one.row) at two.beside);
+}
+
+-- ---- turns
+
+-- the units before these had their turn
+abbrev pub HaveTurns : Handles → Table Node → Table Node → List Unit → List Unit → Entry → Entry →
+    Buffers → List PendingUnit → List PendingUnit → Type 0
+HaveTurns handles t now us vs old new buffers all left =
+    (ss : List CollectionRow) → MidEvent t us ss old [] (turn_heads all) → AreTurns t old.keys.items all →
+    waits_among [] (nodes_with t old.keys.items) ≡ true → old.buffers ≡ Some buffers →
+    AfterSteps handles t now vs ss old new [] (turn_heads left)
+    × (AreTurns now old.keys.items left × (waits_among [] (nodes_with now old.keys.items) ≡ true))
+
+-- no turn was taken, so nothing changed
+pub turns_none : (handles : Handles) (t : Table Node) (us : List Unit) (e : Entry) (buffers : Buffers) (all : List PendingUnit) →
+    HaveTurns handles t t us us e e buffers all all
+turns_none handles t us e buffers all ss under turns waits given = (led_none _ under, (turns, waits))
+
+-- the outcome of one logical allocation, if it is the next
+abbrev pub Takes : Handles → Table Node → Table Node → List Unit → List Unit → Entry → Entry → Buffers → NodeKey → Type 0
+Takes handles t now us vs old new buffers head =
+    (ss : List CollectionRow) (place : ℕ) (ws : List PendingUnit) → MidEvent t us ss old [] (head ∷ turn_heads ws) →
+    AreTurns t old.keys.items (record { place = place; head = head } ∷ ws) →
+    waits_among [] (nodes_with t old.keys.items) ≡ true → old.buffers ≡ Some buffers → is_abandoned_in handles t old ≡ false →
+    AfterSteps handles t now vs ss old new [] (turn_heads ws)
+    × (AreTurns now old.keys.items ws × (waits_among [] (nodes_with now old.keys.items) ≡ true))
+
+module _ (handles : Handles) (t u now : Table Node) (us vs ws : List Unit) (old e new : Entry)
+    (buffers : Buffers) (all : List PendingUnit) where
+  -- one more had
+  pub turns_more : (w : PendingUnit) (left : List PendingUnit) → HaveTurns handles t u us vs old e buffers all (w ∷ left) →
+      (e.buffers ≡ Some buffers → is_abandoned_in handles u e ≡ false) → Takes handles u now vs ws e new buffers w.head →
+      HaveTurns handles t now us ws old new buffers all left
+  turns_more w left had kept takes ss under turns waits given =
+      let so_far = had ss under turns waits given in
+      let keys : e.keys.items ≡ old.keys.items = ap (λ (s : CollectionRow). s.keys) so_far.0.row in
+      let still : e.buffers ≡ Some buffers = ap (λ (s : CollectionRow). s.buffers) so_far.0.row ∙ given in
+      let next = takes ss w.place left so_far.0.under
+      (rw keys so_far.1.0)
+      (rw keys so_far.1.1) still (kept still) in (
+        led_on so_far.0 next.0,
+        (
+          rw keys at next.1.0,
+          rw keys at next.1.1,
+        ),
+      )
+
+-- ---- where nothing holds a unit, the counts tell how far up nothing but the unit below holds one, and the highest of those ends
 
 module _ (t : Table Node) (us : List Unit) where
   -- it ends where there is no next one
@@ -138,11 +225,8 @@ module _ {t : Table Node} {us : List Unit} {ss : List CollectionRow} {e : Entry}
   -- the line above a key is no longer than the collection, nor that than the table
   short : (key : NodeKey) → length (above key) ≤ table_len t
   short key =
-      let a = above_short (reverse nodes) key in
-      let b : length (reverse nodes) ≡ length nodes = length-reverse nodes in
-      let d = few_nodes t e.keys.items in
       let f = few_keys ss (row_of e) on_row in
-      omega (arith, a, b, d, f, ok.store.kept.counted)
+      omega (arith, above_short (reverse nodes) key, length-reverse nodes, few_nodes t e.keys.items, f, ok.store.kept.counted)
 
   -- ---- the climb
 
@@ -188,16 +272,12 @@ module _ {t : Table Node} {us : List Unit} {ss : List CollectionRow} {e : Entry}
   closed : (top : Node) → In top nodes → top.gone ≡ false → unit_over t us top.key ≡ None → (y q : Node) → In y nodes → In q nodes →
       top.parent ≡ Some q.key → q.head ≡ y.key → times (lives_in y.key) nodes ≡ 0 → times (heads_below nodes y.key) nodes ≡ 1 → ⊥
   closed top on here last y q y_on q_on counted_above unit live below =
-      let there : is_some (node_at t q.head) ≡ true = ap is_some (ap (node_at t) unit ∙ at y y_on) in
       let counts : unit_at us q.head.slot ≡ unit_of nodes y.key = ap (λ (k : NodeKey). unit_at us k.slot) unit ∙ unit_told ok y y_on in
-      let none_live : ((unit_at us q.head.slot).live == 0) ≡ true =
-      eq-eqb _ 0 (ap (λ (u : Unit). u.live) counts ∙ live) in
-      let one_below : ((unit_at us q.head.slot).below == 1) ≡ true =
-      eq-eqb _ 1 (ap (λ (u : Unit). u.below) counts ∙ below) in
-      let once : is_held_once t us q ≡ true = and_both _ _ there (and_both _ _ none_live one_below) in
+      let none_live = eq-eqb _ 0 (ap (λ (u : Unit). u.live) counts ∙ live) in
+      let one_below = eq-eqb _ 1 (ap (λ (u : Unit). u.below) counts ∙ below) in
       let some : unit_over t us top.key ≡ Some q.head =
       over_by top on here ∙ ap (option_and_then (λ p. unkept_at (node_at t p))) counted_above ∙ ap unkept_at (at q q_on)
-      ∙ ap (λ b. when b q.head) once in
+      ∙ ap (λ b. when b q.head) (and_both _ _ (ap is_some (ap (node_at t) unit ∙ at y y_on)) (and_both _ _ none_live one_below)) in
       let no : Some q.head ≡ None = sym some ∙ last in
       cc
 
@@ -216,9 +296,7 @@ module _ {t : Table Node} {us : List Unit} {ss : List CollectionRow} {e : Entry}
       from : (o : Option NodeKey) → h.parent ≡ o → option_and_then (λ p. unkept_at (node_at t p)) o ≡ None
       from None is = refl
       from (Some p) is =
-          let long : length (above h.key) ≡ length (p ∷ above p) =
-          ap length (step (whole_under ok) h unheld.on unheld.here is) in
-          absurd (omega (arith, few, long))
+          absurd (omega (arith, few, ap length (step (whole_under ok) h unheld.on unheld.here is)))
   reach (suc n) {h} {keys} unheld own few = from (unit_over t us h.key) refl (λ o ks l w f. reach n l w f)
     where
       from : (o : Option NodeKey) → unit_over t us h.key ≡ o →
@@ -238,10 +316,8 @@ module _ {t : Table Node} {us : List Unit} {ss : List CollectionRow} {e : Entry}
           let high : is_below nodes x.node.key x.above.key ≡ true =
           subst (λ k. is_below nodes k x.above.key ≡ true) (sym x.of)
           (in_unit_below (whole_under ok) x.above x.above_on x.above_here) in
-          let shorter : length (above x.node.key) ≤ length (above x.above.key) =
-          shorter (whole_under ok) _ _ (left_in _ x.node x.on x.here) (left_in _ x.above x.above_on x.above_here) high in
-          let long : length (above h.key) ≡ length (x.above.key ∷ above x.above.key) =
-          ap length (step (whole_under ok) h unheld.on unheld.here x.up) in
+          let shorter = shorter (whole_under ok) _ _ (left_in _ x.node x.on x.here) (left_in _ x.above x.above_on x.above_here) high in
+          let long = ap length (step (whole_under ok) h unheld.on unheld.here x.up) in
           let next = on x.node (x.node.key ∷ keys)
           (climbs (whole_under ok) unheld x.above x.above_on x.up x.node x.on
           x.here x.head x.of x.live x.below)
@@ -294,14 +370,9 @@ module _ {t : Table Node} {us : List Unit} {ss : List CollectionRow} {e : Entry}
       -- nothing holds the unit, by its counts, so it alone is loose
       begun : AreLoose nodes head.node (head.node.key ∷ [])
       begun =
-          let is : is_held_by (unit_of nodes head.node.key) ≡ false =
-          ap is_held_by (sym (unit_told ok _ head.on)) ∙ (ap (λ (k : NodeKey). is_held_by (unit_at us k.slot)) head.is ∙ none) in
-          let live : times (lives_in head.node.key) nodes ≤ 0 =
-          ltb-false 0 (times (lives_in head.node.key) nodes)
-          (or_none_left _ _ is) in
-          let below : times (heads_below nodes head.node.key) nodes ≤ 0 =
-          ltb-false 0 (times (heads_below nodes head.node.key) nodes)
-          (or_none_right _ _ is) in
+          let is = ap is_held_by (sym (unit_told ok _ head.on)) ∙ (ap (λ (k : NodeKey). is_held_by (unit_at us k.slot)) head.is ∙ none) in
+          let live = ltb-false 0 (times (lives_in head.node.key) nodes) (or_none_left _ _ is) in
+          let below = ltb-false 0 (times (heads_below nodes head.node.key) nodes) (or_none_right _ _ is) in
           begins (whole_under ok) _ head.on head.here head.head
           (omega arith) (omega arith)
 
@@ -357,3 +428,97 @@ module _ {t : Table Node} {us : List Unit} {ss : List CollectionRow} {e : Entry}
         where
           went_is : nodes_with now e.keys.items ≡ after_end top.key nodes
           went_is = went.nodes ∙ ap (λ (k : NodeKey). after_end k nodes) (sym (top_is key is))
+
+-- ---- what a fault takes is removed from its collection, and what nothing holds then ends
+
+-- a head that is left is there
+pub head_row : (t : Table Node) → ((key : NodeKey) (n : Node) → node_at t key ≡ Some n → n.key ≡ key) → (keys : List NodeKey)
+    (head : NodeKey) → is_head_left (nodes_with t keys) head ≡ true → (n : Node) × (node_at t head ≡ Some n)
+head_row t named keys head left =
+    let h = head_left _ head left in
+    (h.node, ap (node_at t) (sym h.is) ∙ in_all _ (nodes_with t keys) (looked_there t named keys) h.node h.on)
+
+-- what is lent is there
+pub lent_there : (o : Option (Bor Node)) {n : Node} → option_copied o ≡ Some n → is_some o ≡ false → ⊥
+lent_there None h out = cc
+lent_there (Some b) h out = cc
+
+module _ (handles : Handles) {t mid : Table Node} {us : List Unit} {ss : List CollectionRow} {e e1 : Entry} {fault : Fault} {pending
+    : List NodeKey}
+    {above : Option NodeKey} (went : AfterRemoval t mid us ss e e1 fault.origin (Some fault) above [] pending) where
+  -- the row of the entry before the loss
+  abbrev s : CollectionRow
+  s = row_of e
+
+  -- only the nodes change
+  lost_is : collection_in mid s ≡ with_nodes (after_loss fault) (collection_in t s)
+  lost_is = λ i. record (collection_in t s) { nodes = went.nodes i }
+
+  -- nothing is above what fell, or else that ends too
+  pub after_fall_on : {now : Table Node} {new : List Unit} {e2 : Entry} → AfterSteps handles mid now new ss e1 e2 [] pending →
+      AreOrEnd (nodes_with mid e1.keys.items) (nodes_with now e1.keys.items) → AfterLoss handles t now new ss e e2 fault pending
+  after_fall_on {now} led ends = record {
+    under = led.under;
+    row = led.row ∙ went.row;
+    leads = λ pool others after on. rw lost_is at
+        (subst (λ x. Reaches pool handles others (collection_in mid x) (collection_in now x)) went.row (led.leads pool others)
+        after on);
+    beside = record {
+      same = same_on went.beside.same led.beside.same;
+      others = λ x there differ.
+          led.beside.others x there (λ is. differ (is ∙ ap (λ (y : CollectionRow). y.id) went.row)) ∙ went.beside.others x there differ;
+    };
+    nodes = rw went.nodes at
+        (subst (λ (x : CollectionRow). AreOrEnd (nodes_with mid x.keys) (nodes_with now x.keys)) went.row ends);
+  }
+
+-- nothing hung on what fell, so no unit lost what held it
+pub after_fall_alone : (handles : Handles) {t now : Table Node} {us : List Unit} {ss : List CollectionRow} {e new : Entry} {fault : Fault}
+    {pending : List NodeKey} → AfterRemoval t now us ss e new fault.origin (Some fault) None [] pending →
+    AfterLoss handles t now us ss e new fault pending
+after_fall_alone handles {t} {e} went = record {
+  under = went.under;
+  row = went.row;
+  leads = λ pool others after on. subst (λ c. Settles pool handles others c after)
+      (λ i. record (collection_in t (row_of e)) { nodes = went.nodes i }) on;
+  beside = went.beside;
+  nodes = inl went.nodes;
+}
+
+-- ---- what a failure takes of a table is of one collection, where parents are
+
+-- the node with this key is of this collection, if there is one
+abbrev own_at : Table Node → ℕ → NodeKey → Bool
+own_at t id key = option_map_or (λ (n : Node). n.collection == id) (node_at t key) true
+
+-- by induction over the keys
+own_all : (t : Table Node) (id : ℕ) (keys : List NodeKey) →
+    ((key : NodeKey) → list_any (same_key key) keys ≡ true → own_at t id key ≡ true) → all_of id (nodes_with t keys) ≡ true
+own_all t id [] each = refl
+own_all t id (k ∷ ks) each =
+    by (own_all t id ks (λ key on. each key (or_right _ _ on))) (node_at t k)
+    (each k (ap (λ b. b || list_any (same_key k) ks) (same_key-refl k)))
+  where
+    -- by cases: a key that finds no node adds none
+    by : all_of id (nodes_with t ks) ≡ true → (o : Option Node) → option_map_or (λ (n : Node). n.collection == id) o true ≡ true →
+        all_of id (cons_option o (nodes_with t ks)) ≡ true
+    by rest None own = rest
+    by rest (Some n) own = and_both _ _ own rest
+
+module _ {t : Table Node} (forest : IsForest t)
+    (kin : (key p : NodeKey) (n q : Node) → node_at t key ≡ Some n → parent_at t key ≡ Some p → node_at t p ≡ Some q →
+    q.collection ≡ n.collection) (id : ℕ) where
+  -- a node and its parent are of one collection
+  own_kin : (key : NodeKey) {p : NodeKey} → parent_at t key ≡ Some p → own_at t id p ≡ own_at t id key
+  own_kin key {p} up = grind (arith, child_node, node_there)
+
+  module _ (origin : NodeKey) (own : own_at t id origin ≡ true) where
+    -- so all that is reached from one of the collection is of it
+    own_reached : {key : NodeKey} → Reach (parent_at t) (blocked_at is_blocking t) origin key → own_at t id key ≡ true
+    own_reached Origin = own
+    own_reached (Up child above r free up) = own_kin _ up ∙ own_reached r
+    own_reached (Down above child r up) = sym (own_kin _ up) ∙ own_reached r
+
+    -- each key that is taken is reached over parents, which are of one collection
+    pub own_taken : {keys : List NodeKey} → IsTaken t origin keys → all_of id (nodes_with t keys) ≡ true
+    own_taken taken = own_all t id _ (λ key on. own_reached ((taken.fall key).0 (Contains-from_any same_key-true key _ on)))

@@ -1,15 +1,16 @@
 -- Units one above another that nothing holds but the one below: their heads alone are deserted, and the highest is the first. Once it
 -- ended with all below it, something holds each unit.
-use Rattle.forest_steps.proofs.Common.{◌≡◌, ℕ, zero, suc, ◌+◌, ◌<◌, ◌≤◌, refl, ap, sym, ◌∙◌, subst, Bool, true, false, not, ◌&&◌, ◌||◌}
-use Rattle.forest_steps.proofs.Common.{◌⊎◌, inl, inr, List, [], ◌∷◌, length, reverse, Option, Some, arith, not-true, find, list_any}
-use Rattle.forest_steps.proofs.Common.{option_map_or, NodeKey, same_key, times, In, In-list_any, In-map, In-map-back, and_both, and_left}
-use Rattle.forest_steps.proofs.Common.{and_right, both_ways, either_way, false_if, or_cases, or_left, or_right, same_key-refl}
-use Rattle.forest_steps.proofs.Common.{same_key-true, some-injective, all_on, In-any, Node, lives_in, is_left_of, is_of, is_deserted_node}
-use Rattle.forest_steps.proofs.Common.{is_live_node, are_distinct, is_head, same_key-equal, list_any-map, hangs_in, heads_below}
-use Rattle.forest_steps.proofs.Common.{after_end, ended, is_below, count_none, all-In, AreOne, distinct_one, left_in, left_parent}
-use Rattle.forest_steps.proofs.Common.{Collection, IsWhole, length-reverse, are_held_except, holds_unit, is_held, above_short, ◌++◌}
-use Rattle.forest_steps.proofs.Common.{if◌then◌else◌, None, are_rooted, In-reverse, In-reverse-back, or_none_left, or_none_right}
-use Rattle.forest_steps.proofs.Common.{same_key-comm, above_among, hangs_on, left_node, found_by_key, reverse-append, one_line}
+use Rattle.forest_steps.proofs.Common.{AreOne, Bool, Collection, In, In-any, In-list_any, In-map, In-map-back, In-reverse}
+use Rattle.forest_steps.proofs.Common.{In-reverse-back, IsWhole, List, Node, NodeKey, None, Option, Some, [], above_among, above_short}
+use Rattle.forest_steps.proofs.Common.{after_end, all-In, all_on, and_both, and_left, and_right, ap, are_distinct, are_held_except}
+use Rattle.forest_steps.proofs.Common.{are_rooted, arith, both_ways, count_none, distinct_one, either_way, ended, false, false_if, find}
+use Rattle.forest_steps.proofs.Common.{found_by_key, hangs_in, hangs_on, heads_below, holds_unit, if◌then◌else◌, inl, inr, is_below}
+use Rattle.forest_steps.proofs.Common.{is_deserted_node, is_head, is_held, is_left_of, is_live_node, is_of, left_in, left_node}
+use Rattle.forest_steps.proofs.Common.{left_parent, length, length-reverse, list_any, list_any-map, lives_in, not, not-true, one_line}
+use Rattle.forest_steps.proofs.Common.{option_map_or, or_cases, or_left, or_none_left, or_none_right, or_right, refl, reverse}
+use Rattle.forest_steps.proofs.Common.{reverse-append, same_key, same_key-comm, same_key-equal, same_key-refl, same_key-true}
+use Rattle.forest_steps.proofs.Common.{some-injective, subst, suc, sym, times, true, zero, ℕ, ◌&&◌, ◌++◌, ◌+◌, ◌<◌, ◌||◌, ◌∙◌, ◌∷◌, ◌≡◌}
+use Rattle.forest_steps.proofs.Common.{◌⊎◌}
 use Rattle.forest_steps.proofs.tables.Upward.{line, step, shorter, in_unit_below, below_through}
 use Rattle.forest_steps.proofs.tables.Upward.{below_self, below_parent, still_here, up, chain}
 use Rattle.sm_names.proofs.ListLaws.{times-zero}
@@ -58,10 +59,9 @@ alone_counts p (n ∷ ns) distinct a on h alone =
     -- by cases: it is the first and none behind passes, or it is behind and the first does not pass
     from : In a (n ∷ ns) → (In a ns → times p ns ≡ 1) → times p (n ∷ ns) ≡ 1
     from (inl is) later =
-        let here : p n ≡ true = sym (ap p is) ∙ h in
         let none : times p ns ≡ 0 = times-zero p ns (λ b there. false_if _ (λ passes.
         absurd (apart b there (alone b (inr there) passes ∙ ap (λ (m : Node). m.key) is)))) in
-        rw (here, none) refl
+        rw (sym (ap p is) ∙ h, none) refl
     from (inr there) later =
         let here : p n ≡ false = false_if _ (λ passes. absurd (apart a there (sym (alone n (inl refl) passes)))) in
         rw (here, later there) refl
@@ -87,9 +87,7 @@ other_counts p ns distinct a on h more =
 no_match : {A : Type 0} (p : A → Bool) (xs : List A) → list_any p xs ≡ false → last_match p xs ≡ None
 no_match p [] none = refl
 no_match p (x ∷ xs) none =
-    let here : p x ≡ false = or_none_left _ _ none in
-    let rest : last_match p xs ≡ None = no_match p xs (or_none_right _ _ none) in
-    rw (rest, here) refl
+    rw (no_match p xs (or_none_right _ _ none), or_none_left _ _ none) refl
 
 -- the element that is appended is the last that passes, if it does
 match-append : {A : Type 0} (p : A → Bool) (ys : List A) (x : A) → last_match p (ys ++ x ∷ []) ≡ (if p x then Some x else last_match p ys)
@@ -166,10 +164,9 @@ module _ {c : Collection} (whole : IsWhole c) where
     last_is (n ∷ older) within rooted' there = elim (either_way (list_any (is_of top.key) older)) [
       | inl e ↦
           let x = In-list_any (is_of top.key) older e in
-          let is : x.0 ≡ top = one x.0 top (within x.0 (inr x.1)) on_top (same_key-true x.0.key top.key x.2) in
           let rest : last_match p older ≡ Some top =
           last_is older (λ m on. within m (inr on)) (and_right (hangs_on older n) (are_rooted older) rooted') (subst (λ m.
-          In m older) is x.1) in
+          In m older) (one x.0 top (within x.0 (inr x.1)) on_top (same_key-true x.0.key top.key x.2)) x.1) in
           rw rest refl
       | inr e ↦ from there e
     ]
@@ -298,8 +295,7 @@ module _ {c : Collection} (whole : IsWhole c) where
         | inl same ↦
             let is_h : x ≡ h = one x h there unheld.on (same_key-true _ _ same) in
             let key : p ≡ q.key = some-injective p q.key (sym above ∙ (ap (λ (m : Node). m.parent) is_h ∙ h_up)) in
-            let is_q : r ≡ q = one r q r_on q_on (r_is ∙ key) in
-            or_left _ _ (same_key-equal _ _ (ap (λ (m : Node). m.head) is_q ∙ sym is))
+            or_left _ _ (same_key-equal _ _ (ap (λ (m : Node). m.head) (one r q r_on q_on (r_is ∙ key)) ∙ sym is))
         | inr not_h ↦ or_right _ _ (unheld.over x there e not_h p above r r_on r_is)
       ]
     ];
@@ -424,12 +420,9 @@ module _ {c : Collection} (whole : IsWhole c) where
               let at : is_below nodes y.key p ≡ true =
               rw u.4 at (subst (λ k. is_below nodes k q.key ≡ true) u.5
               (in_unit_below whole q u.3 (still_here whole q u.3 (rw u.4 left)))) in
-              let under : is_below nodes y.key x.node.key ≡ true =
-              below_parent whole y.key x.node x.on x.here u.1 at in
-              let longer : length (line whole x.node.key) ≡ length (p ∷ line whole p)
-              = ap length (step whole x.node x.on x.here u.1) in
-              let more : length (line whole y.key) ≤ length (line whole p) =
-              shorter whole y.key p (left_in nodes y on here) left at in
+              let under = below_parent whole y.key x.node x.on x.here u.1 at in
+              let longer = ap length (step whole x.node x.on x.here u.1) in
+              let more = shorter whole y.key p (left_in nodes y on here) left at in
               let z = In-list_any (lives_below nodes x.node.key) nodes
               (lives fuel x.node x.on x.here (or_right _ _ b.0) b.1 (omega arith)) in
               let live : is_live_node z.0 ≡ true = and_left _ _ z.2 in
@@ -486,11 +479,10 @@ module _ {c : Collection} (whole : IsWhole c) where
           let z = In-list_any (lives_below nodes x.node.key) nodes
           (lives_at _ x.on x.here (or_right _ _ b.0) b.1) in
           let live : is_live_node z.0 ≡ true = and_left (is_live_node z.0) _ z.2 in
-          let z_here : z.0.gone ≡ false = not-true _ (and_left _ _ live) in
           both_ways _
           (In-any (lives_below nodes top.key) nodes z.0 z.1
           (and_both _ _ live
-          (below_through whole top.key x.node.key z.0.key (left_in nodes z.0 z.1 z_here)
+          (below_through whole top.key x.node.key z.0.key (left_in nodes z.0 z.1 (not-true _ (and_left _ _ live)))
           (left_in _ _ x.on x.here) (and_right (is_live_node z.0) _ z.2) e))) none_live
     ])
 
@@ -503,8 +495,7 @@ module _ {c : Collection} (whole : IsWhole c) where
     -- by cases: the unit ended, or what held it is left
     held_one : (y : Node) → In y nodes → is_held now (ended nodes top.key y) ≡ true
     held_one y on = from (is_below nodes top.key y.key) y.gone (is_head y) (list_any (holds_unit now y.key) now) (λ above here head.
-        let alive : is_one keys y.key ≡ false =
-        false_if (is_one keys y.key) (λ e. both_ways (is_below nodes top.key y.key) (unheld.low y.key e).1 above) in
+        let alive = false_if (is_one keys y.key) (λ e. both_ways (is_below nodes top.key y.key) (unheld.low y.key e).1 above) in
         let x = holder y on here head alive in
         In-any (holds_unit now y.key) now (ended nodes top.key x.node) (In-map-back (ended nodes top.key) nodes x.node x.on)
         (holds_still y.key x.node (outside y x) x.here x.holds))

@@ -1,12 +1,12 @@
 -- Nodes of which some went: none may come to its turn that might not before.
-use Rattle.forest_steps.proofs.Common.{◌≡◌, refl, ap, sym, ◌∙◌, subst, Bool, true, false, not, ◌||◌, ◌⊎◌, inl, inr, is_none, is_some}
-use Rattle.forest_steps.proofs.Common.{List, map, Option, Some, None, not-true, list_all, NodeKey, same_key, In, In-map-back, and_both}
-use Rattle.forest_steps.proofs.Common.{and_left, and_right, both_ways, either_way, false_if, same_key-true, all_on, Node, waiting}
-use Rattle.forest_steps.proofs.Common.{Collection, is_ready_node, heads_itself, or-true, Fault, is_under, after_loss, ended, is_taken}
-use Rattle.forest_steps.proofs.Common.{lost, member_of, IsSound, GoTogether, all-In, head_own, AreClosed, AreOrEnd, is_coming, IsSameNode}
+use Rattle.forest_steps.proofs.Common.{AreClosed, AreOrEnd, Bool, Collection, Fault, GoTogether, In, In-map-back, IsSameNode, IsSound}
+use Rattle.forest_steps.proofs.Common.{List, Node, NodeKey, None, Option, Some, after_loss, all-In, all_on, and_both, and_left, and_right}
+use Rattle.forest_steps.proofs.Common.{ap, both_ways, either_way, ended, false, false_if, head_own, inl, inr, is_coming, is_none}
+use Rattle.forest_steps.proofs.Common.{is_ready_node, is_some, is_taken, is_under, list_all, lost, map, member_of, not, not-true, or-true}
+use Rattle.forest_steps.proofs.Common.{refl, same_key, same_key-true, subst, sym, true, waiting, ◌||◌, ◌∙◌, ◌≡◌, ◌⊎◌}
 use Rattle.sm_names.proofs.ListLaws.{map-map}
-use Rattle.forest_steps.proofs.mid_event.RootLost.{waits_was}
-use Rattle.forest_steps.proofs.turns.Gifts.{closed_mapped}
+use Rattle.forest_steps.proofs.mid_event.Tops.{waits_was}
+use Rattle.forest_steps.proofs.turns.Grown.{closed_mapped}
 
 -- some go, and nothing else is asked of them changes
 pub record OnlyGo (f : Node → Node) : Type 0 where
@@ -90,10 +90,9 @@ module _ {c : Collection} (sound : IsSound c) {f : Node → Node} (only : OnlyGo
       one : (m : Node) → In m nodes → (same_key m.head h.key ≡ true) ⊎ (same_key m.head h.key ≡ false) → is_ready_node h.key m ≡ true
       one m there (inr out) = rw out (or-true m.gone)
       one m there (inl same) =
-          let unit : m.head ≡ h.key = same_key-true _ _ same in
           let stays : (f m).gone ≡ false =
           together.spared (f m) (f h) (In-map-back f _ m there) (In-map-back f _ h on)
-          ((only.same m).head ∙ (unit ∙ sym (only.same h).key)) ((only.same h).head
+          ((only.same m).head ∙ ((same_key-true _ _ same) ∙ sym (only.same h).key)) ((only.same h).head
           ∙ (own ∙ sym (only.same h).key)) here (only.allocated h ∙ waits) in
           (λ i. (here_was m stays ∙ sym stays) i || (not (same_key (sym (only.same m).head i) h.key)
           || (sym (only.released m) i || is_some (sym (only.constraints m) i))))
@@ -126,8 +125,7 @@ module _ {c : Collection} (sound : IsSound c) {f : Node → Node} (only : OnlyGo
           let x = waits_was f nodes sound.one_root is (λ m on same root.
           let top : is_none m.parent ≡ true = ap is_none (sym (only.same m).parent ∙ root.top) in
           let waits : m.allocated ≡ false = sym (only.allocated m) ∙ root.bare in
-          let mine : heads_itself m ≡ true = all-In _ _ m on sound.heads in
-          let own : m.head ≡ m.key = same_key-true _ _ (rw top at mine) in (
+          let own : m.head ≡ m.key = same_key-true _ _ (rw top at (all-In _ _ m on sound.heads)) in (
             and_both _ _ top (ap not (here_was m root.here)),
             waits,
             ready_was m on root.here waits own (subst (λ j. list_all (is_ready_node j) now ≡ true) (only.same m).key root.ready),

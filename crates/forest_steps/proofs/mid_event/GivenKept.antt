@@ -21,7 +21,7 @@ use Rattle.forest_store.proofs.changes.Altering.{change_makes}
 use Rattle.forest_store.proofs.leaving.Thinning.{none-filter}
 use Rattle.forest_store.proofs.newborns.Newborn.{before_is}
 use Rattle.forest_store.proofs.tables.Writing.{distinct-map}
-use Rattle.forest_steps.proofs.mid_event.RootLost.{ready_root}
+use Rattle.forest_steps.proofs.mid_event.Tops.{ready_root}
 
 -- ---- nodes that change
 

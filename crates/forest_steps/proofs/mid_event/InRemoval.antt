@@ -1,16 +1,16 @@
 -- Nodes that went in their places while forced steps are made, and the counts of those that are left.
-use Rattle.forest_steps.proofs.Common.{◌≡◌, ◌≢◌, ◌+◌, ◌<◌, ◌==◌, refl, ap, sym, ◌∙◌, subst, Bool, true, false, not, ◌&&◌, ◌||◌, inl}
-use Rattle.forest_steps.proofs.Common.{inr, List, map, reverse, length, Option, Some, None, option_map, arith, eqb-false, eqb-true}
-use Rattle.forest_steps.proofs.Common.{AllByRecursion, find, list_all, list_any, option_map_or, NodeKey, same_key, times, In, In-find}
-use Rattle.forest_steps.proofs.Common.{In-list_any, In-map, In-map-back, both_ways, either_way, false_if, same_key-true, In-any}
-use Rattle.forest_steps.proofs.Common.{Table, node_at, parent_at, Node, Unit, unkept_except, strong_count, AreUnits, lives_in, unit_at}
-use Rattle.forest_steps.proofs.Common.{waits_in, Collection, with_nodes, IsStored, IsWhole, CollectionRow, collection_in, is_filed}
-use Rattle.forest_steps.proofs.Common.{nodes_with, row_of, reserved_count, are_rooted, is_head, Entry, Contains-from_any}
-use Rattle.forest_steps.proofs.Common.{list_any-from_Contains, and-false, blocked_at, RemovalKind, HasUnits, hangs_in, heads_below, unit_of}
-use Rattle.forest_steps.proofs.Common.{IsTaken, gone_by, Stores, all_of, stored, is_blocking, GoTogether, found_whole, times_map}
-use Rattle.forest_steps.proofs.Common.{in_looked, in_all, looked_there, in_row, all_at, all-In, IsSameNode, Up, StoreAgrees}
-use Rattle.forest_steps.proofs.Common.{or_none_right, uncounted_both, given_of, goes_in, goes_not, goes_of, gone_of, same_of, all_in}
-use Rattle.forest_steps.proofs.Common.{hangs_mapped, looked-map, one_row, IsSound-map, kept-with, IsGoneSo, went_now}
+use Rattle.forest_steps.proofs.Common.{AllByRecursion, AreUnits, Bool, Collection, CollectionRow, Contains-from_any, Entry, GoTogether}
+use Rattle.forest_steps.proofs.Common.{HasUnits, In, In-any, In-find, In-list_any, In-map, In-map-back, IsGoneSo, IsSameNode, IsSound-map}
+use Rattle.forest_steps.proofs.Common.{IsStored, IsTaken, IsWhole, List, Node, NodeKey, None, Option, RemovalKind, Some, StoreAgrees}
+use Rattle.forest_steps.proofs.Common.{Stores, Table, Unit, Up, all-In, all_at, all_in, all_of, and-false, ap, are_rooted, arith}
+use Rattle.forest_steps.proofs.Common.{both_ways, collection_in, either_way, eqb-false, eqb-true, false, false_if, find, found_whole}
+use Rattle.forest_steps.proofs.Common.{given_of, goes_in, goes_not, goes_of, gone_by, gone_of, hangs_in, hangs_mapped, heads_below}
+use Rattle.forest_steps.proofs.Common.{in_all, in_looked, in_row, inl, inr, is_blocking, is_filed, is_head, kept-with, length, list_all}
+use Rattle.forest_steps.proofs.Common.{list_any, list_any-from_Contains, lives_in, looked-map, looked_there, map, node_at, nodes_with}
+use Rattle.forest_steps.proofs.Common.{not, one_row, option_map, option_map_or, or_none_right, parent_at, refl, reserved_count, reverse}
+use Rattle.forest_steps.proofs.Common.{row_of, same_key, same_key-true, same_of, stored, strong_count, subst, sym, times, times_map, true}
+use Rattle.forest_steps.proofs.Common.{uncounted_both, unit_at, unit_of, unkept_except, waits_in, went_now, with_nodes, ◌&&◌, ◌+◌, ◌<◌}
+use Rattle.forest_steps.proofs.Common.{◌==◌, ◌||◌, ◌∙◌, ◌≡◌, ◌≢◌}
 use Rattle.forest_store.specs.Counts.{HasUnit, AreUnitsExcept, head_above}
 use Rattle.forest_steps.proofs.tables.Upward.{head_there}
 use Rattle.forest_store.specs.LossMarks.{uncounted_own}
@@ -189,14 +189,12 @@ module _ {t : Table Node} {us : List Unit} {ss : List CollectionRow} {old : Entr
     uncounted_above_other t _ _ _ (λ m there j above slots.
         let h = above_of m there above in
         let at : node_at t j ≡ Some h.0 = ap (node_at t) (sym h.2) ∙ at_key h.0 h.1 in
-        let one : j ≡ k = one_slot t j k h.0 n at is slots in
-        let node : n ≡ h.0 = one_option n (sym is ∙ (ap (node_at t) (sym one) ∙ at)) in
+        let node : n ≡ h.0 = one_option n (sym is ∙ (ap (node_at t) (sym (one_slot t j k h.0 n at is slots)) ∙ at)) in
         differ (ap (λ (x : Node). x.collection) node ∙ of_it store.kept store.found h.0 h.1))
         ∙ uncounted_own_other _ us _ (λ m there here slots.
         let h = head_of m there here in
         let at : node_at t m.head ≡ Some h.0 = ap (node_at t) (sym h.2) ∙ at_key h.0 h.1 in
-        let one : m.head ≡ k = one_slot t _ k h.0 n at is slots in
-        let node : n ≡ h.0 = one_option n (sym is ∙ (ap (node_at t) (sym one) ∙ at)) in
+        let node : n ≡ h.0 = one_option n (sym is ∙ (ap (node_at t) (sym (one_slot t _ k h.0 n at is slots)) ∙ at)) in
         differ (ap (λ (x : Node). x.collection) node ∙ of_it store.kept store.found h.0 h.1)),
   )
 
@@ -207,9 +205,7 @@ module _ {t : Table Node} {us : List Unit} {ss : List CollectionRow} {old : Entr
   -- with a node of a unit without buffers its parent falls
   falls_up : StepsUp nodes (λ n. falls n.key)
   falls_up n q p on there is key here unheld bare e =
-      let at_n : node_at t n.key ≡ Some n = at_key n on in
-      let free : blocked_at is_blocking t n.key ≡ false =
-      ap (λ o. option_map_or is_blocking o false) at_n ∙ rw (unheld, bare) (and-false n.dispensable) in
+      let free = ap (λ o. option_map_or is_blocking o false) (at_key n on) ∙ rw (unheld, bare) (and-false n.dispensable) in
       let up : parent_at t n.key ≡ Some q.key = linked store.kept store.found n on here ∙ (is ∙ ap Some (sym key)) in
       list_any-from_Contains key_equivalence q.key keys
       ((taken.fall q.key).1 (Up n.key q.key ((taken.fall n.key).0 (Contains-from_any same_key-true _ _ e)) free up))
@@ -235,8 +231,7 @@ module _ {t : Table Node} {us : List Unit} {ss : List CollectionRow} {old : Entr
         by : (o : Option Node) → node_at t k ≡ o → option_map (stored (map (gone_by going) fallen)) o ≡ option_map f o
         by None is = refl
         by (Some n) is =
-            let at : node_at t n.key ≡ Some n = ap (node_at t) (store.kept.named k n is) ∙ is in
-            ap Some (stored_goes t store.kept.named _ _ n at n (inl refl))
+            ap Some (stored_goes t store.kept.named _ _ n (ap (node_at t) (store.kept.named k n is) ∙ is) n (inl refl))
 
     -- a node that is there was there
     was : (key : NodeKey) {n : Node} → node_at now key ≡ Some n → (m : Node) × (node_at t key ≡ Some m) × (f m ≡ n)

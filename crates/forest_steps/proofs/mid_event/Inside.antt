@@ -95,8 +95,7 @@ module _ {t : Table Node} {ss : List CollectionRow} (kept : IsStored t ss) {s : 
       from : (n.attached ≡ true) ⊎ (n.attached ≡ false) →
           (not (same_key n.key k) && (n.attached && not (is_ready_head us s.id n))) ≡ false
       from (inl e) =
-          let head : list_any (same_key n.key) hs ≡ true =
-          ap (λ j. list_any (same_key j) hs) (sym (head_own _ (whole kept found).sound n on e)) ∙ own in
+          let head = ap (λ j. list_any (same_key j) hs) (sym (head_own _ (whole kept found).sound n on e)) ∙ own in
           out (same_key n.key k) n.attached (is_ready_head us s.id n)
           (ap (λ o. same_key n.key k || option_map_or (is_ready_head us s.id) o false) (sym (at_key kept found n on))
           ∙ (head_from _ head).1)

@@ -1,19 +1,23 @@
--- What a walk over one unit finds: each of its nodes, so that what these ask for is what the unit asks for.
-use Rattle.forest_steps.proofs.Common.{◌≡◌, ℕ, ◌==◌, refl, ap, sym, ◌∙◌, subst, Bool, true, false, not, ◌&&◌, inl, inr, List, Option}
-use Rattle.forest_steps.proofs.Common.{Some, None, arith, not-true, find, list_any, sum_by, option_map_or, NodeKey, Buffers, Demand}
-use Rattle.forest_steps.proofs.Common.{same_key, In, and_left, and_right, both_ways, either_way, false_if, same_key-true, Table}
-use Rattle.forest_steps.proofs.Common.{node_at, parent_at, Effect, Node, affected, IsStored, CollectionRow, nodes_with, reserved_count}
-use Rattle.forest_steps.proofs.Common.{same_key-equal, Contains-from_any, list_any-from_Contains, filter_map, greatest, Writes}
-use Rattle.forest_steps.proofs.Common.{Below, Top, Within, stopped_at, RemovalKind, late_failure, demands_of, is_in_unit, same_affected}
-use Rattle.forest_steps.proofs.Common.{in_looked, IsBareHead, key_listed, head_own, in_all, looked_there, in_row, camped_sum}
-use Rattle.forest_steps.proofs.Common.{and-false, ◌↔◌, Contains, refusal, IsUnitListed, asked_there, parents-written, amount_within}
-use Rattle.forest_steps.proofs.tables.Upward.{own_head, by_unit}
+-- What a walk over one unit finds: each of its nodes, so that what these ask for is what the unit asks for. The root of a collection:
+-- what its loss takes, and that it is lost where the buffers are abandoned.
+use Rattle.forest_steps.proofs.Common.{Below, Bool, Buffers, Cause, Collection, CollectionRow, Contains, Contains-from_any, Demand}
+use Rattle.forest_steps.proofs.Common.{Effect, Fault, In, In-map, In-reverse, In-reverse-back, IsBareHead, IsStored, IsUnitListed}
+use Rattle.forest_steps.proofs.Common.{IsWhole, List, Loses, Node, NodeKey, None, Option, RemovalKind, Some, Table, Top, Within, Writes}
+use Rattle.forest_steps.proofs.Common.{[], above_among, affected, after_loss, amount_within, and-false, and_left, and_right, ap, arith}
+use Rattle.forest_steps.proofs.Common.{asked_there, both_ways, camped_sum, decided, demands_of, either_way, false, false_if, filter_map}
+use Rattle.forest_steps.proofs.Common.{find, found_by_key, greatest, has_given_root, has_strong, head_own, in_all, in_looked, in_row, inl}
+use Rattle.forest_steps.proofs.Common.{inr, is_below, is_deserted_node, is_in_unit, is_root_left, is_taken, key_listed, late_failure}
+use Rattle.forest_steps.proofs.Common.{left_in, list_any, list_any-from_Contains, looked_there, node_at, nodes_with, not, not-true}
+use Rattle.forest_steps.proofs.Common.{one_line, option_map_or, or_left, or_right, parent_at, parents-written, refl, refusal}
+use Rattle.forest_steps.proofs.Common.{reserved_count, reverse, same_affected, same_key, same_key-equal, same_key-true, stopped_at, subst}
+use Rattle.forest_steps.proofs.Common.{sum_by, sym, true, ℕ, ◌&&◌, ◌==◌, ◌↔◌, ◌∙◌, ◌∷◌, ◌≡◌}
+use Rattle.forest_steps.proofs.tables.Upward.{below_parent, below_self, by_unit, chain, own_head, up}
 use Rattle.std.specs.Option.{option_map}
 use Rattle.forest_steps.proofs.failures.Ties.{key_equivalence}
-use Rattle.forest_steps.proofs.allocation.Sums.{asked_back, asked_of, asks_passes, joined, greatest_same}
+use Rattle.forest_steps.proofs.allocation.Sums.{asked_back, asked_of, asks_passes, greatest_same, joined}
 use Rattle.forest_steps.proofs.mid_event.Affecting.{look_here}
-use Rattle.forest_steps.proofs.tables.Rows.{child_node}
-use Rattle.forest_steps.proofs.tables.OfRow.{whole, linked, at_key, of_it}
+use Rattle.forest_steps.proofs.tables.OfRow.{at_key, child_node, linked, of_it, whole}
+use Rattle.forest_steps.proofs.failures.AllGone.{AreGone, all_hang, one_root}
 
 module _ {t : Table Node} {ss : List CollectionRow} (kept : IsStored t ss) {s : CollectionRow}
     (found : find (λ (x : CollectionRow). x.id == s.id) ss ≡ Some s)
@@ -155,3 +159,96 @@ listed_written {t} {now} {key} effect was named writes {head} {keys} listed = re
         ap (λ b. not (same_key x head) && b)
         (ap (λ o. option_map_or (λ (m : Node). m.attached) o false) (look_here _ was named writes x)
         ∙ attached (node_at t x))
+
+-- ---- the root of a collection: what its loss takes, and that it is lost where the buffers are abandoned
+
+-- ---- what its loss takes
+
+module _ {c : Collection} (whole : IsWhole c) (r : Node) (on : In r c.nodes) (here : r.gone ≡ false) (root : r.parent ≡ None) where
+  -- nothing lies above it
+  no_line : above_among (reverse c.nodes) r.key ≡ []
+  no_line =
+      one_line (up whole) r.key _ []
+      (chain whole r.key (left_in _ r on here))
+      (ap (λ o. option_map_or (λ (m : Node). m.parent) o None) (found_by_key _ r whole.sound.distinct on) ∙ root)
+
+  -- the root is the highest of what its loss takes
+  taken_below : (n : Node) → is_taken c.nodes r.key n ≡ is_below c.nodes r.key n.key
+  taken_below n = grind (arith, found_by_key, no_line)
+
+  -- all that is left lies below it
+  pub below_root : (n : Node) → In n c.nodes → n.gone ≡ false → is_below c.nodes r.key n.key ≡ true
+  below_root n there stays =
+      all_hang _ c.nodes
+      (λ x in_nodes left none. subst (λ (y : Node). is_below c.nodes r.key y.key ≡ true)
+      (one_root _ whole.sound.one_root r x on in_nodes root none)
+      (below_self whole r.key))
+      (λ p x in_nodes left above under.
+      below_parent whole _ x in_nodes left above under)
+      _ (λ x in_nodes. In-reverse _ x in_nodes) whole.rooted n (In-reverse-back _ n there) stays
+
+  -- so all are gone once it is lost
+  pub all_lost : (fault : Fault) → fault.origin ≡ r.key → AreGone (after_loss fault c.nodes)
+  all_lost fault begins n there =
+      let x = In-map _ _ n there in
+      ap (λ (m : Node). m.gone) x.2 ∙ elim (either_way x.0.gone) [
+        | inl e ↦ or_right _ _ e
+        | inr e ↦ or_left _ _ (ap (λ k. is_taken c.nodes k x.0) begins ∙ taken_below x.0 ∙ below_root x.0 x.1 e)
+      ]
+
+-- ---- where it is
+
+-- the first node, a root that is not gone and has its buffers
+pub record IsGivenRoot (t : Table Node) (keys : List NodeKey) : Type 0 where
+  pub node : Node
+  pub rest : List NodeKey
+  pub keys_are : keys ≡ node.key ∷ rest
+  pub there : node_at t node.key ≡ Some node
+  pub left : is_root_left node ≡ true
+  pub allocated : node.allocated ≡ true
+
+-- by cases on the first key
+pub given_root : (t : Table Node) → ((key : NodeKey) (n : Node) → node_at t key ≡ Some n → n.key ≡ key) → (keys : List NodeKey) →
+    has_given_root t keys ≡ true → IsGivenRoot t keys
+given_root t named [] given = let no : false ≡ true = given in absurd (cc)
+given_root t named (k ∷ ks) given = from (node_at t k) refl given
+  where
+    -- by cases: the first key finds no node, or a root with buffers
+    from : (o : Option Node) → node_at t k ≡ o → option_map_or (λ (n : Node). is_root_left n && n.allocated) o false ≡ true →
+        IsGivenRoot t (k ∷ ks)
+    from None is h = let no : false ≡ true = h in absurd (cc)
+    from (Some n) is h = record {
+      node = n;
+      rest = ks;
+      keys_are = ap (λ x. x ∷ ks) (sym (named k n is));
+      there = ap (node_at t) (named k n is) ∙ is;
+      left = and_left _ _ h;
+      allocated = and_right _ _ h;
+    }
+
+module _ {t : Table Node} {keys : List NodeKey} (r : IsGivenRoot t keys) where
+  -- the root's key is the first
+  nodes_are : nodes_with t keys ≡ r.node ∷ nodes_with t r.rest
+  nodes_are = ap (nodes_with t) r.keys_are ∙ rw r.there refl
+
+  -- so it is the first node
+  pub root_on : In r.node (nodes_with t keys)
+  root_on = subst (In r.node) (sym nodes_are) (inl refl)
+
+  -- the root is left
+  pub root_here : r.node.gone ≡ false
+  root_here = not-true _ (and_right _ _ r.left)
+
+  -- the root has no parent
+  pub root_top : r.node.parent ≡ None
+  root_top = grind arith
+
+  -- the first node passes
+  root_found : find is_root_left (nodes_with t keys) ≡ Some r.node
+  root_found = ap (find is_root_left) nodes_are ∙ rw r.left refl
+
+  -- it is lost for want of a strong node where no strong handle is open, if no node is deserted
+  pub root_decided : (buffers : Option Buffers) (strong_open : Bool) → find (is_deserted_node (nodes_with t keys)) (nodes_with t keys)
+      ≡ None → has_strong (nodes_with t keys) ≡ false → strong_open ≡ false →
+      decided (nodes_with t keys) buffers strong_open ≡ Some (Loses r.node.key Cause.NoStrong)
+  root_decided buffers strong_open no_end weak shut = grind (arith, root_found)

@@ -1,13 +1,13 @@
 -- The units that may come to their turn by one, in a list: from what a walk finds to the order of their places.
-use Rattle.forest_steps.proofs.Common.{◌≡◌, ℕ, suc, ◌<◌, ◌≤◌, ◌==◌, nat_lt, refl, ap, sym, ◌∙◌, subst, Bool, true, false, not, ◌⊎◌, inl}
-use Rattle.forest_steps.proofs.Common.{inr, get_or, length, List, [], ◌∷◌, ◌++◌, map, Some, None, arith, eqb-true, lt-ltb, not-true}
-use Rattle.forest_steps.proofs.Common.{find, list_any, option_map_or, NodeKey, same_key, In-list_any, In-map, In-map-back, and_both}
-use Rattle.forest_steps.proofs.Common.{and_left, and_right, both_ways, either_way, false_if, or_cases, or_right, same_key-refl}
-use Rattle.forest_steps.proofs.Common.{same_key-true, some-injective, In-any, Table, node_at, parent_at, Entry, Node, Unit, AreUnits}
-use Rattle.forest_steps.proofs.Common.{unit_at, IsStored, CollectionRow, collection_in, nodes_with, row_of, Below, Top, Within, RemovalKind}
-use Rattle.forest_steps.proofs.Common.{HasUnits, Hangs, Roots, is_head_at, is_waiting_head, in_looked, key_listed, node_there, in_row}
-use Rattle.forest_steps.proofs.Common.{slice_get, In-get_or, PendingUnit, AreHeads, IsGathered, hangs_below, is_ready_head, AreClosed}
-use Rattle.forest_steps.proofs.Common.{ArePlacedIfThere, AreTurns, MidEvent, is_head_left, turn_heads, eq-eqb}
+use Rattle.forest_steps.proofs.Common.{AreClosed, AreHeads, ArePlacedIfThere, AreTurns, AreUnits, Below, Bool, CollectionRow, Entry}
+use Rattle.forest_steps.proofs.Common.{Hangs, HasUnits, In-any, In-get_or, In-list_any, In-map, In-map-back, IsGathered, IsStored, List}
+use Rattle.forest_steps.proofs.Common.{MidEvent, Node, NodeKey, None, PendingUnit, RemovalKind, Roots, Some, Table, Top, Unit, Within, []}
+use Rattle.forest_steps.proofs.Common.{and_both, and_left, and_right, ap, arith, both_ways, collection_in, either_way, eq-eqb, eqb-true}
+use Rattle.forest_steps.proofs.Common.{false, false_if, find, hangs_below, in_looked, in_row, inl, inr, is_head_at, is_head_left}
+use Rattle.forest_steps.proofs.Common.{is_ready_head, is_waiting_head, key_listed, length, list_any, lt-ltb, map, nat_lt, node_at}
+use Rattle.forest_steps.proofs.Common.{node_there, nodes_with, not, not-true, option_map_or, or_cases, or_right, parent_at, refl, row_of}
+use Rattle.forest_steps.proofs.Common.{same_key, same_key-refl, same_key-true, slice_get, some-injective, subst, suc, sym, true}
+use Rattle.forest_steps.proofs.Common.{turn_heads, unit_at, ℕ, ◌++◌, ◌<◌, ◌==◌, ◌∙◌, ◌∷◌, ◌≡◌, ◌⊎◌}
 use Rattle.forest_store.proofs.changes.Altering.{Some-row}
 use Rattle.forest_store.proofs.allocation.Before.{closed_below}
 use Rattle.std.proofs.Common.{filter}
@@ -19,7 +19,7 @@ use Rattle.sm_names.proofs.ListLaws.{In-append}
 use Rattle.forest_store.specs.Unkept.{IsPlace}
 use Rattle.forest_store.specs.UnitAllocation.{IsWalked, left_out_at}
 use Rattle.forest_steps.specs.MidEvent.{AreInTurn}
-use Rattle.forest_steps.proofs.lists.ByKey.{place_of}
+use Rattle.forest_steps.proofs.lists.Ranges.{place_of}
 use Rattle.forest_steps.proofs.turns.Places.{grown, key_node, node_key, one_place}
 use Rattle.forest_steps.proofs.mid_event.EndAbove.{head_left}
 use Rattle.forest_steps.proofs.tables.OfRow.{of_it}
@@ -39,8 +39,7 @@ in_turn_from [] rising = tt
 in_turn_from (w ∷ ws) rising = (
   λ v on.
       let p = place_of v ws on in
-      let less : w.place ≤ (get_or ws p.0 v).place = rising 0 (suc p.0) v (omega arith) (omega (arith, p.1)) in
-      rw p.2 at less,
+      rw p.2 at (rising 0 (suc p.0) v (omega arith) (omega (arith, p.1))),
   in_turn_from ws (λ i j d few within. rising (suc i) (suc j) d (omega (arith, few)) (omega (arith, within))),
 )
 
@@ -85,21 +84,17 @@ module _ {t : Table Node} {ss : List CollectionRow} (kept : IsStored t ss) {s : 
     behind Top is here l i first on = inl refl
     behind (Below over key reach open_above up) {n} is here l i first on =
         let q = key_node kept found i on in
-        let same : q.0 ≡ n = some-injective q.0 n (sym q.2 ∙ is) in
-        let at : slice_get nodes i ≡ Some n = q.1 ∙ ap Some same in
         let parent : n.parent ≡ Some over = sym (kept.linked key n is here) ∙ up in
-        elim (grown kept found i n at here) [
+        elim (grown kept found i n (q.1 ∙ ap Some (some-injective q.0 n (sym q.2 ∙ is))) here) [
           | Roots none ↦ let both : None ≡ Some over = sym none ∙ parent in cc
           | Hangs g ↦
               let above : g.above.key ≡ over = some-injective _ _ (sym g.parent ∙ parent) in
               let place : slice_get s.keys g.place ≡ Some over = node_key kept found _ g.found ∙ ap Some above in
               let y = key_node kept found _ place in
-              let one : y.0 ≡ g.above = some-injective y.0 _ (sym y.1 ∙ g.found) in
               let lower = g.first in
-              elim (behind reach (y.2 ∙ ap Some one) g.here l _ first place) [
+              elim (behind reach (y.2 ∙ ap Some (some-injective y.0 _ (sym y.1 ∙ g.found))) g.here l _ first place) [
                 | inl e ↦
-                    let stands : l ≡ g.place = one_place kept found l _ (first ∙ ap Some (sym e)) place in
-                    inr (omega (arith, stands, lower))
+                    inr (omega (arith, one_place kept found l _ (first ∙ ap Some (sym e)) place, lower))
                 | inr less ↦ inr (omega (arith, less, lower))
               ]
         ]
@@ -147,8 +142,7 @@ module _ {t : Table Node} {ss : List CollectionRow} (kept : IsStored t ss) {s : 
         (and_both _ _ (lt-ltb m.0.key.slot (length us) (within m.0.key m.0 is))
         (and_both (is_waiting_head m.0) _ (and_left (is_waiting_head m.0) _ hangs)
         (and_left ((unit_at us m.0.key.slot).unready == 0) _ (and_right (is_waiting_head m.0) _ hangs)))) in
-        let head : is_head_at t us s.id k m.0.key ≡ true =
-        or_right _ _ (ap (λ o. option_map_or (is_ready_head us s.id) o false) is ∙ ready) in
+        let head = or_right _ _ (ap (λ o. option_map_or (is_ready_head us s.id) o false) is ∙ ready) in
         both_ways _
         (inside.head_back kept found counts gathered all m.0.key
         (inside.hangs_inside kept found counts gathered m.0 on hangs) head) (not-true _ (and_right _ _ m.2)))
@@ -242,8 +236,7 @@ pub turns_listed : {t : Table Node} {us : List Unit} {ss : List CollectionRow} {
     IsNonDecreasingBy (λ (w : PendingUnit). w.place) vs →
     AreTurns t e.keys.items vs × ((place : ℕ) × (rest : List PendingUnit) × (vs ≡ record { place = place; head = k } ∷ rest))
 turns_listed {t} {us} {ss} {e} under {k} left walked ws vs heads placed moved rising =
-    let s : CollectionRow = row_of e in
-    let counts : HasUnits us (nodes_with t s.keys) = units_found t us _ ss under.store.units under.store.found in (
+    let counts : HasUnits us (nodes_with t (row_of e).keys) = units_found t us _ ss under.store.units under.store.found in (
       are_turns under.store.kept under.store.found k counts under.store.inside left walked ws vs heads placed moved rising,
       first_is under.store.kept under.store.found k counts under.store.inside left walked ws vs heads placed moved rising,
     )

@@ -1,17 +1,16 @@
 -- A loss or an effect that is made on its collection, with all that it forces.
-use Rattle.forest_steps.proofs.Common.{◌≡◌, refl, ap, sym, ◌∙◌, subst, Bool, true, false, not, ◌&&◌, ◌||◌, ◌⊎◌, inl, inr, List, [], ◌∷◌}
-use Rattle.forest_steps.proofs.Common.{Option, Some, None, not-true, list_any, option_map_or, NodeKey, same_key, In, In-list_any}
-use Rattle.forest_steps.proofs.Common.{In-map, In-map-back, and_both, and_left, and_right, either_way, same_key-true, all_on, In-any}
-use Rattle.forest_steps.proofs.Common.{Table, Effect, Entry, Node, Unit}
-use Rattle.forest_steps.proofs.Common.{waiting, Collection, IsWhole, CollectionRow, collection_in, nodes_with}
-use Rattle.forest_steps.proofs.Common.{row_of, is_of, Handles, Settles, is_head, arith, Fault, or_none_right, after_end, after_loss}
-use Rattle.forest_steps.proofs.Common.{ended, all-In, found_whole, distinct_one, IsSameNode, or_first, after_effect, AreOrEnd}
-use Rattle.forest_steps.proofs.Common.{AfterEffect, IsBeside, AfterLoss, AfterSteps, PropagatedFrom, AfterPropagation, MidEvent}
-use Rattle.forest_steps.proofs.Common.{Reaches, are_held_except, holds_unit, is_head_left, is_held, waits_among, hangs_mapped}
+use Rattle.forest_steps.proofs.Common.{AfterEffect, AfterLoss, AfterPropagation, AfterSteps, AreOrEnd, Bool, Collection, CollectionRow}
+use Rattle.forest_steps.proofs.Common.{Effect, Entry, Fault, Handles, In, In-any, In-list_any, In-map, In-map-back, IsBeside, IsSameNode}
+use Rattle.forest_steps.proofs.Common.{IsWhole, List, MidEvent, Node, NodeKey, None, Option, PropagatedFrom, Reaches, Settles, Some}
+use Rattle.forest_steps.proofs.Common.{Table, Unit, [], after_effect, after_end, after_loss, all-In, all_on, and_both, and_left}
+use Rattle.forest_steps.proofs.Common.{and_right, ap, are_held_except, arith, collection_in, distinct_one, either_way, ended, false}
+use Rattle.forest_steps.proofs.Common.{found_whole, hangs_mapped, holds_unit, inl, inr, is_head, is_head_left, is_of, list_any}
+use Rattle.forest_steps.proofs.Common.{nodes_with, not, not-true, option_map_or, or_first, or_none_right, refl, row_of, same_key}
+use Rattle.forest_steps.proofs.Common.{same_key-true, subst, sym, true, waiting, waits_among, ◌&&◌, ◌||◌, ◌∙◌, ◌∷◌, ◌≡◌, ◌⊎◌}
 use Rattle.forest_steps.proofs.mid_event.Fewer.{only_ended, waits_on}
-use Rattle.forest_steps.proofs.mid_event.Leading.{beside_on, led_none, led_on}
-use Rattle.forest_steps.proofs.mid_event.NextThere.{wait_among}
-use Rattle.forest_steps.proofs.mid_event.RootLost.{ready_root}
+use Rattle.forest_steps.proofs.mid_event.EndAbove.{beside_on, led_none, led_on}
+use Rattle.forest_steps.proofs.mid_event.Counted.{wait_among}
+use Rattle.forest_steps.proofs.mid_event.Tops.{ready_root}
 
 -- ---- a loss
 
@@ -94,14 +93,11 @@ module _ {c d : Collection} (whole : IsWhole c) (whole_then : IsWhole d) (head :
     | inr root ↦
         let x = In-list_any _ _ left in
         let key : x.0.key ≡ head = same_key-true _ _ (and_left _ _ x.2) in
-        let heads : is_head x.0 ≡ true = and_right _ _ (and_right _ _ x.2) in
         let y = In-map _ _ _ (subst (λ ns. In root.node ns) is root.on) in
-        let same : y.0 ≡ x.0 = distinct_one c.nodes whole.sound.distinct y.0 x.0 y.1 x.1
-        (sym (ap (λ (n : Node). n.key) y.2) ∙ (root.is ∙ sym key)) in
+        let same = distinct_one c.nodes whole.sound.distinct y.0 x.0 y.1 x.1 (sym (ap (λ (n : Node). n.key) y.2) ∙ (root.is ∙ sym key)) in
         let then : root.node ≡ ended c.nodes top x.0 = y.2 ∙ ap (ended c.nodes top) same in
-        let all : is_held d.nodes root.node ≡ true = all-In _ _ _ root.on held_then in
         let some : list_any (holds_unit d.nodes root.node.key) d.nodes ≡ true =
-        rw (root.here, ap is_head then ∙ heads) at all in
+        rw (root.here, ap is_head then ∙ (and_right _ _ (and_right _ _ x.2))) at (all-In _ _ _ root.on held_then) in
         let was : list_any (holds_unit c.nodes x.0.key) c.nodes ≡ true =
         held_was _ top _ (subst (λ ns. list_any (holds_unit ns x.0.key) ns ≡ true) is
         (rw (ap (λ (n : Node). n.key) then) at some)) in

@@ -9,17 +9,16 @@ use Rattle.forest_steps.proofs.Common.{after_allocation, given_few, IsGivenAt, g
 use Rattle.forest_steps.proofs.Common.{IsBareHead, in_all, looked_there, arith, or_false, AllocationOutcome, PendingUnit, IsComing}
 use Rattle.forest_steps.proofs.Common.{IsRooted, first_made, row_then, IsUnitListed, AreTurns, AfterPropagation, MidEvent}
 use Rattle.forest_steps.proofs.Common.{are_held_except, is_head_left, is_next_except, turn_heads, waits_among, kept-put}
-use Rattle.forest_steps.proofs.changes.Dropped.{nothing_stored}
-use Rattle.forest_steps.proofs.changes.FirstAllocated.{all_there, found_there, units_there}
-use Rattle.forest_steps.proofs.allocation.RootUnit.{waits_none}
+use Rattle.forest_steps.proofs.changes.Dropped.{all_there, found_there, nothing_stored, units_there}
+use Rattle.forest_steps.proofs.allocation.Sums.{waits_none}
 use Rattle.forest_steps.proofs.mid_event.Listing.{units_found}
-use Rattle.forest_steps.proofs.mid_event.NextThere.{next_fewer, wait_among}
+use Rattle.forest_steps.proofs.mid_event.Counted.{next_fewer, wait_among}
 use Rattle.forest_steps.proofs.mid_event.Ready.{whole_under, under_with}
-use Rattle.forest_steps.proofs.mid_event.RootLost.{IsReadyRoot, ready_root}
+use Rattle.forest_steps.proofs.mid_event.Tops.{IsReadyRoot, ready_root}
 use Rattle.forest_steps.proofs.mid_event.Turns.{hangs_more, turns_behind}
-use Rattle.forest_steps.proofs.mid_event.UnitGiven.{IsUnitGiven, closed_given, f, given_is, held_then}
-use Rattle.forest_steps.proofs.mid_event.UnitGiven.{next_parts, next_then, served, unit_given, was_there}
-use Rattle.forest_steps.proofs.tables.Rows.{same_on}
+use Rattle.forest_steps.proofs.mid_event.Joining.{IsUnitGiven, closed_given, f, given_is, held_then, next_parts, next_then, served}
+use Rattle.forest_steps.proofs.mid_event.Joining.{unit_given, was_there}
+use Rattle.forest_steps.proofs.tables.OfRow.{same_on}
 use Rattle.forest_steps.proofs.tables.Upward.{own_head}
 
 -- another row stays where one is put
@@ -140,9 +139,8 @@ module _ {t now : Table Node} {us : List Unit} {ss : List CollectionRow} {e : En
   -- the row is put at its place, with the same keys
   kept' : IsStored t ss'
   kept' =
-      let put_same : put_row (row_of e) ss ≡ ss = found_put s ss u.store.kept.rising u.store.found in
       kept-put t t e.id [] (nothing_stored t) u.store.kept.named refl refl s' s ss refl refl u.store.kept.rising
-      (rw put_same u.store.kept) tt tt
+      (rw (found_put s ss u.store.kept.rising u.store.found) u.store.kept) tt tt
       (all_there s s' refl _ ss u.store.kept.rising u.store.found whole' u.store.kept.whole)
 
   -- the row is found where it was put

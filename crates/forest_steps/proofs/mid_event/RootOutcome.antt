@@ -14,14 +14,13 @@ use Rattle.forest_steps.specs.declared.initial_allocation.Plan.{Plan}
 use Rattle.forest_store.specs.Calm.{put_in}
 use Rattle.forest_steps.specs.InitialAllocation.{IsReservedThen}
 use Rattle.forest_store.proofs.changes.Opening.{opens_at}
-use Rattle.forest_steps.proofs.changes.Dropped.{pool_at}
-use Rattle.forest_steps.proofs.changes.FirstAllocated.{put_there}
+use Rattle.forest_steps.proofs.changes.Dropped.{pool_at, put_there}
 use Rattle.forest_steps.proofs.intervals.Pools.{pool_back}
-use Rattle.forest_steps.proofs.tables.Rows.{same_on}
+use Rattle.forest_steps.proofs.tables.OfRow.{same_on}
 use Rattle.forest_steps.proofs.mid_event.Joining.{but_beside, but_set, here_is, joined}
 use Rattle.forest_store.proofs.rows.Entries.{place_set}
 use Rattle.forest_steps.proofs.mid_event.Ready.{no_end_under}
-use Rattle.forest_steps.proofs.mid_event.RootMade.{coming_decided, step_made, under_held}
+use Rattle.forest_steps.proofs.mid_event.Changing.{coming_decided, step_made, under_held}
 use Rattle.forest_steps.proofs.mid_event.Stepping.{node_there}
 use Rattle.forest_steps.proofs.mid_event.RootReady.{comes_coming, comes_held, none_waits_held, strong_then}
 use Rattle.forest_steps.proofs.mid_event.RootReady.{sound_then, reserved_alone, wanted_then, reserved_then}
@@ -44,8 +43,7 @@ pub waits_not : {t : Table Node} {es : List Entry} {id at : ℕ} (old : Entry) �
     are_held_except [] (map (affected key effect) (nodes_with t old.keys.items)) ≡ true →
     waiting (map (affected key effect) (nodes_with t old.keys.items)) ≡ None
 waits_not {t} {es} {id} {at} old told is {us} key effect ready none held =
-    let x = node_there ready.kept id key ready.change.named in
-    none_waits_held key _ x.1
+    none_waits_held key _ (node_there ready.kept id key ready.change.named).1
     (opens_at t es id at old (place_is id es at told) is ready.kept ready.counted us ready.units _ ready.change)
     none held
 

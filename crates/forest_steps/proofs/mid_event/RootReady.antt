@@ -19,14 +19,13 @@ use Rattle.forest_store.proofs.allocation.Before.{whole_before}
 use Rattle.forest_steps.proofs.tables.Upward.{head_there, own_head}
 use Rattle.forest_store.specs.Counts.{decrement_if}
 use Rattle.forest_store.proofs.quiescence.Calming.{count_some}
-use Rattle.forest_steps.proofs.allocation.RootUnit.{root_found}
+use Rattle.forest_steps.proofs.allocation.Sums.{asked_back, asked_is, asked_of, asks_passes, greatest_same, joined, mapped, reserved_all}
+use Rattle.forest_steps.proofs.allocation.Sums.{reserved_same, root_found}
 use Rattle.forest_store.proofs.tallies.Amounts.{times_changed}
 use Rattle.forest_store.proofs.tallies.Counting.{lives_own, waits_own}
-use Rattle.forest_steps.proofs.mid_event.RootLost.{IsReadyRoot, ready_root, waits_was}
+use Rattle.forest_steps.proofs.mid_event.Tops.{IsReadyRoot, ready_root, waits_was}
 use Rattle.forest_steps.specs.First.{wanted_of}
-use Rattle.forest_steps.proofs.allocation.Sums.{reserved_all, asked_back, asked_is, asked_of, asks_passes}
-use Rattle.forest_steps.proofs.allocation.Sums.{joined, mapped, reserved_same, greatest_same}
-use Rattle.forest_steps.proofs.mid_event.UnitGiven.{given_is}
+use Rattle.forest_steps.proofs.mid_event.Joining.{given_is}
 use Rattle.forest_steps.proofs.mid_event.Listed.{key_within, of_unit}
 use Rattle.forest_steps.specs.InitialAllocation.{has_buffers_then}
 use Rattle.forest_store.proofs.tables.LeftParents.{loss_left}
@@ -318,9 +317,8 @@ module _ {t : Table Node} {us : List Unit} (key : NodeKey) (effect : Effect) {n 
       to_few d there =
           let x = asked_of _ _ d there in
           let y = In-map f _ x.0 x.1 in
-          let own : test y.0 ≡ true = sym (test_same y.0) ∙ (ap test (sym y.2) ∙ asks_passes _ _ x.2) in
           let found : In y.0 (nodes_with t ks) = in_looked t opens.kept.named RemovalKind.Leaves ks y.0 (at_key y.0 y.1) (inside y.0
-          y.1 own) in
+          y.1 (sym (test_same y.0) ∙ (ap test (sym y.2) ∙ asks_passes _ _ x.2))) in
           asked_back _ _ x.0 (subst (λ m. In m (map f (nodes_with t ks))) (sym y.2) (In-map-back f _ y.0 found)) x.2
 
       -- each list has what the other has
@@ -361,16 +359,12 @@ module _ {t : Table Node} {us : List Unit} (key : NodeKey) (effect : Effect) {n 
           sum_by (λ (d : Demand). d.camping) (asked_with t ks (n.head ∷ []) (affected key effect n))
           ≡ reserved_count (after_allocation n.head (map (affected key effect) (nodes_with t s.keys)))
       reserved_alone none =
-          let before : reserved_count now ≡ 0 = sym reserved_is ∙ none in
           let unit : sum_by (λ (d : Demand). d.camping) (demands_of (is_in_some (n.head ∷ [])) now)
           ≡ sum_by (λ (d : Demand). d.camping) all =
           (λ i. sum_by (λ (d : Demand). d.camping) (demands_of (λ (m : Node). not m.gone && or_false (same_key m.head n.head) i) now)) in
           let given = reserved_all now (n.head ∷ []) bare_now in
-          let same_given : reserved_count (after_allocation n.head now) ≡ reserved_count now + sum_by (λ (d : Demand). d.camping)
-          (demands_of (is_in_some (n.head ∷ [])) now) = ap reserved_count (sym (given_is _ now)) ∙ given in
-          let asks : sum_by (λ (d : Demand). d.camping) (asked_with t ks (n.head ∷ []) (f n)) ≡ sum_by (λ (d : Demand). d.camping) all =
-          ap (sum_by (λ (d : Demand). d.camping)) asked_ks ∙ sum_few in
-          omega (arith, before, unit, same_given, asks)
+          let asks = ap (sum_by (λ (d : Demand). d.camping)) asked_ks ∙ sum_few in
+          omega (arith, sym reserved_is ∙ none, unit, ap reserved_count (sym (given_is _ now)) ∙ given, asks)
 
   -- ---- and where it does not come, the root does not wait, if something holds the unit
 

@@ -22,21 +22,21 @@ use Rattle.forest_store.proofs.allocation.Before.{IsDueHead, due_bare, due_head,
 use Rattle.std.proofs.lemmas.Option.{slice_get-get_or}
 use Rattle.std.specs.List.{slice_get}
 use Rattle.forest_store.specs.Unkept.{IsPlace}
-use Rattle.forest_steps.proofs.turns.Gifts.{not_this}
-use Rattle.forest_steps.proofs.mid_event.NextThere.{next_fewer, next_told, none_waits, ready_by, wait_among}
+use Rattle.forest_steps.proofs.turns.Grown.{not_this}
+use Rattle.forest_steps.proofs.mid_event.Counted.{next_fewer, next_told, none_waits, ready_by, wait_among}
 use Rattle.forest_steps.proofs.turns.Places.{above_first, at_one_place, got_In, key_node, node_key, one_place}
 use Rattle.std.specs.Option.{option_map}
 use Rattle.forest_store.proofs.allocation.Allocated.{AreChildren, wait_on}
 use Rattle.forest_steps.proofs.allocation.Sums.{reserved_all}
-use Rattle.forest_steps.proofs.mid_event.UnitGiven.{IsUnitGiven, closed_given, f, given_is, held_then}
-use Rattle.forest_steps.proofs.mid_event.UnitGiven.{next_then, served, unit_given, was_there}
+use Rattle.forest_steps.proofs.mid_event.Joining.{IsUnitGiven, closed_given, f, given_is, held_then, next_then, served, unit_given}
+use Rattle.forest_steps.proofs.mid_event.Joining.{was_there}
 use Rattle.sm_names.specs.Losses.{top as topmost}
 use Rattle.forest_steps.proofs.mid_event.Fewer.{HaveGone, closed_on, have_gone, waits_on}
 use Rattle.forest_steps.proofs.allocation.Giving.{same_given}
 use Rattle.forest_steps.proofs.mid_event.Listed.{refusal_is, sum_is}
 use Rattle.forest_steps.proofs.mid_event.Ready.{no_end_under, whole_under, under_with}
 use Rattle.forest_steps.proofs.changes.Dropped.{kept_root}
-use Rattle.forest_steps.proofs.mid_event.Leading.{led_none}
+use Rattle.forest_steps.proofs.mid_event.EndAbove.{led_none}
 use Rattle.forest_steps.proofs.tables.OfRow.{at_key}
 use Rattle.forest_store.proofs.lists.Filters.{any-map_filter}
 
@@ -66,8 +66,7 @@ pub find_first : (p : Node → Bool) (ns : List Node) (at : ℕ) {n : Node} → 
 find_first p [] at on is first = cc
 find_first p (m ∷ ms) zero {n} on is first =
     let one : m ≡ n = some-injective m n on in
-    let here : p m ≡ true = ap p one ∙ is in
-    rw here (ap Some one)
+    rw (ap p one ∙ is) (ap Some one)
 find_first p (m ∷ ms) (suc at) on is first =
     let out : p m ≡ false = false_if _ (λ e. let late = first zero m refl e in absurd (omega (arith, late))) in
     rw out (find_first p ms at on is (λ i x there e. let r = first (suc i) x there e in omega (arith, r)))
@@ -178,11 +177,10 @@ module _ {t : Table Node} {us : List Unit} {ss : List CollectionRow} {e : Entry}
             let q = In-list_any _ _ h in
             let w = pending_of ws _ (and_right _ _ q.2) in
             let key : q.0.key ≡ p = same_key-true _ p (and_left _ _ q.2) in
-            let behind : place ≤ w.0.place = turns.in_turn.0 w.0 w.1 in
             let before : w.0.place < place = above_first u.store.kept u.store.found _ _ first head_is
             (ap (λ (m : Node). m.gone) (sym is) ∙ here) (ap (λ (m : Node). m.parent) (sym is) ∙ up)
             (ap (node_at t) (sym key) ∙ at_key u.store.kept u.store.found q.0 q.1) (stands_at w.0 (inr w.1) ∙ ap Some (sym w.2)) in
-            absurd (omega (arith, behind, before))
+            absurd (omega (arith, turns.in_turn.0 w.0 w.1, before))
 
     -- a unit that may come to its turn by one of them is one of them
     pub closed_behind : AreClosed nodes (turn_heads ws)
@@ -258,15 +256,13 @@ module _ {t : Table Node} {us : List Unit} {ss : List CollectionRow} {e : Entry}
         | inr e ↦ absurd (not_this _ _ m u.next (got_In _ i there) (and_both _ _ h (ap not e)))
         | inl e ↦ elim (or_cases _ _ e) [
           | inl same ↦
-              let same_place : i ≡ place = at_one_place _ (whole_under u).sound.distinct i _ there found.1
-              (same_key-true _ k same ∙ sym head_key) in
+              let same_place = at_one_place _ (whole_under u).sound.distinct i _ there found.1 (same_key-true _ k same ∙ sym head_key) in
               omega (arith, same_place)
           | inr some ↦
               let w = pending_of ws _ some in
               let same_place : i ≡ w.0.place = one_place u.store.kept u.store.found i _
               (node_key u.store.kept u.store.found i there) (stands_at w.0 (inr w.1) ∙ ap Some (sym w.2)) in
-              let behind : place ≤ w.0.place = turns.in_turn.0 w.0 w.1 in
-              omega (arith, same_place, behind)
+              omega (arith, same_place, turns.in_turn.0 w.0 w.1)
         ]
       ]
 
@@ -332,8 +328,7 @@ module _ {t : Table Node} {us : List Unit} {ss : List CollectionRow} {e : Entry}
           -- the fault takes the node where it began
           head_gone : (gone.f head).gone ≡ true
           head_gone =
-              let found_head : node_of nodes k ≡ Some head =
-              ap (node_of nodes) (sym head_key) ∙ found_by_key _ _ (whole_under u).sound.distinct head_on in
+              let found_head = ap (node_of nodes) (sym head_key) ∙ found_by_key _ _ (whole_under u).sound.distinct head_on in
               let blocks : blocks_here k head ≡ true = and_both _ _ (ap not head_here)
               (and_both _ _ (same_key-equal _ _ head_key)
               (or_left head.attached (head.dispensable && head.allocated)

@@ -1,12 +1,46 @@
--- Each node of a collection that is not gone stands behind its parent, and is of its unit unless it is attached.
-use Rattle.forest_steps.proofs.Common.{ℕ, zero, suc, ◌<◌, ◌≡◌, refl, ap, sym, ◌∙◌, Bool, true, false, not, ◌||◌, is_none, List, [], ◌∷◌}
-use Rattle.forest_steps.proofs.Common.{◌++◌, take, drop, reverse, Option, Some, None, inl, inr, arith, list_all, option_map_or, NodeKey}
-use Rattle.forest_steps.proofs.Common.{same_key, In, and_left, and_right, Node, is_left_of, are_rooted, same_key-equal, In-reverse}
-use Rattle.forest_steps.proofs.Common.{same_key-comm, Hangs, Roots, hangs_on, all-In, left_node, reverse-append, AreGrown, slice_get}
+-- Lists of nodes, and what units ask for while some are allocated. Each node of a collection that is not gone stands behind its parent,
+-- and is of its unit unless it is attached.
+use Rattle.forest_steps.proofs.Common.{AreClosed, AreGrown, Bool, Hangs, In, In-any, In-map, In-reverse, IsSameNode, List, Node, NodeKey}
+use Rattle.forest_steps.proofs.Common.{None, Option, Roots, Some, [], all-In, and_left, and_right, ap, are_rooted, arith, both_ways, drop}
+use Rattle.forest_steps.proofs.Common.{false, given_all, hangs_in_some, hangs_on, inl, inr, is_coming, is_left_of, is_none, is_of}
+use Rattle.forest_steps.proofs.Common.{is_ready_node, left_node, list_all, list_any, list_any-map, map, not, option_map_or, refl, reverse}
+use Rattle.forest_steps.proofs.Common.{reverse-append, same_key, same_key-comm, same_key-equal, slice_get, suc, sym, take, true, zero, ℕ}
+use Rattle.forest_steps.proofs.Common.{◌&&◌, ◌++◌, ◌<◌, ◌||◌, ◌∙◌, ◌∷◌, ◌≡◌}
 use Rattle.std.proofs.lemmas.List.{append_assoc}
 use Rattle.forest_store.specs.Falls.{IsPlaced}
 use Rattle.forest_store.specs.Units.{are_united, is_parent, shares_unit}
 use Rattle.std.proofs.lemmas.Option.{same_Some}
+
+-- ---- lists
+
+-- not this one, where none is
+pub not_this : {A : Type 0} (p : A → Bool) (xs : List A) (x : A) → list_any p xs ≡ false → In x xs → p x ≡ true → ⊥
+not_this p xs x none on is = both_ways _ (In-any p xs x on is) none
+
+-- ---- units that were allocated
+
+-- by induction: allocation does not change whether a node is ready
+pub ready_same : (k : NodeKey) (heads : List NodeKey) (ns : List Node) →
+    list_all (is_ready_node k) (map (given_all heads) ns) ≡ list_all (is_ready_node k) ns
+ready_same k heads [] = refl
+ready_same k heads (n ∷ ns) = ap (λ b. is_ready_node k n && b) (ready_same k _ ns)
+
+-- ---- units that may come to their turn
+
+-- each that may come to its turn by one of these is one of them still, where it might before: it hangs as it did
+pub closed_mapped : (f : Node → Node) → ((n : Node) → IsSameNode (f n) n) → (nodes : List Node) (hs : List NodeKey) →
+    ((n : Node) → In n nodes → is_coming (map f nodes) (f n) ≡ true → is_coming nodes n ≡ true) → AreClosed nodes hs →
+    AreClosed (map f nodes) hs
+closed_mapped f same nodes hs coming_was closed m there coming hangs =
+    let x = In-map f _ m there in
+    let unit : (p : NodeKey) → list_any (λ (q : Node). is_of p q && list_any (same_key q.head) hs) (map f nodes)
+    ≡ list_any (λ (q : Node). is_of p q && list_any (same_key q.head) hs) nodes = λ p. list_any-map _ _ f nodes
+    (λ q on. λ i. same_key ((same q).key i) p && list_any (same_key ((same q).head i)) hs) in
+    ap (λ (n : Node). list_any (same_key n.key) hs) x.2 ∙ (ap (λ j. list_any (same_key j) hs) (same x.0).key
+    ∙ closed x.0 x.1 (coming_was x.0 x.1 (ap (is_coming (map f nodes)) (sym x.2) ∙ coming))
+    (sym (λ i. option_map_or (λ p. unit p i) ((same x.0).parent i) false) ∙ (ap (hangs_in_some (map f nodes) hs) (sym x.2) ∙ hangs)))
+
+-- ---- each node of a collection that is not gone stands behind its parent, and is of its unit unless it is attached
 
 -- what stands at a place parts the list
 parted_at : {A : Type 0} (xs : List A) (at : ℕ) {x : A} → slice_get xs at ≡ Some x → xs ≡ take at xs ++ x ∷ drop (suc at) xs
@@ -69,8 +103,7 @@ grown_by nodes rooted united at n there here = from n.parent refl
         let left : is_left_of (reverse older) p ≡ true = rw (here, up) at hangs in
         let x = left_node _ p left in
         let place = front_place _ at _ (In-reverse _ _ x.on) in
-        let is : is_parent n x.node ≡ true = ap (λ o. option_map_or (λ k. same_key x.node.key k) o false) up
-        ∙ (same_key-equal _ _ x.is) in
+        let is = ap (λ o. option_map_or (λ k. same_key x.node.key k) o false) up ∙ (same_key-equal _ _ x.is) in
         let plain : (n.attached || (not (is_parent n x.node) || same_key x.node.head n.head)) ≡ true =
         ap (λ o. (is_none o || n.attached) || (not (is_parent n x.node) || same_key x.node.head n.head)) (sym up)
         ∙ all-In _ _ _ x.on shares in

@@ -67,9 +67,7 @@ module _ (nodes : List Node) (distinct : are_distinct nodes ≡ true) (owned : l
       | inr e ↦
           let first = h.first in
           let r = head_from bound _ (omega (arith, within, first)) h.found h.here in
-          let less = r.2 in
-          let same : n.head ≡ h.above.head = same_key-true _ _ (rw e at h.unit) in
-          (r.0, rw same r.1, omega (arith, less, first))
+          (r.0, rw (same_key-true _ _ (rw e at h.unit)) r.1, omega (arith, r.2, first))
     ]
   ]
 
@@ -78,9 +76,7 @@ module _ (nodes : List Node) (distinct : are_distinct nodes ≡ true) (owned : l
       (i : ℕ) × (IsKeyAt nodes h.above.head i) × (i < at)
   above_place on h =
       let r = head_from (suc h.place) _ (omega arith) h.found h.here in
-      let first = h.first in
-      let less = r.2 in
-      (r.0, r.1, omega (arith, first, less))
+      (r.0, r.1, omega (arith, h.first, r.2))
 
 -- ---- the nodes and the keys of a collection
 
@@ -146,8 +142,7 @@ module _ {t : Table Node} {ss : List CollectionRow} (kept : IsStored t ss) {s : 
       x.parent ≡ Some p → node_at t p ≡ Some a → slice_get s.keys h ≡ Some a.head → h < i
   above_first i h {p} {x} {a} on is here up above there =
       let q = key_node i on in
-      let same : q.0 ≡ x = some-injective q.0 x (sym q.2 ∙ is) in
-      let at : slice_get nodes i ≡ Some x = q.1 ∙ ap Some same in
+      let at : slice_get nodes i ≡ Some x = q.1 ∙ ap Some (some-injective q.0 x (sym q.2 ∙ is)) in
       elim (grown i x at here) [
         | Roots none ↦ let both : None ≡ Some p = sym none ∙ up in cc
         | Hangs g ↦
@@ -157,8 +152,6 @@ module _ {t : Table Node} {ss : List CollectionRow} (kept : IsStored t ss) {s : 
             let one : g.above ≡ y.0 = some-injective _ y.0 (sym g.found ∙ y.1) in
             let is_a : g.above ≡ a = one ∙ some-injective y.0 a (sym y.2 ∙ (ap (node_at t) parent ∙ above)) in
             let key = key_there _ r.0 _ r.1 in
-            let same_place : h ≡ r.0 = one_place h r.0 there
-            (node_key r.0 key.1 ∙ ap Some (key.2 ∙ ap (λ (m : Node). m.head) is_a)) in
-            let first = r.2 in
-            omega (arith, same_place, first)
+            let same_place = one_place h r.0 there (node_key r.0 key.1 ∙ ap Some (key.2 ∙ ap (λ (m : Node). m.head) is_a)) in
+            omega (arith, same_place, r.2)
       ]

@@ -1,9 +1,8 @@
 -- Attached units that are allocated in their places: what is forced besides stays as it was.
-use Rattle.forest_store.proofs.Common.{◌≡◌, refl, ap, ◌∙◌, Bool, true, false, not, ◌&&◌, ◌||◌, is_none, List, map, Option}
-use Rattle.forest_store.proofs.Common.{Some, None, list_all, list_any, find, option_map_or, option_and_then, NodeKey}
-use Rattle.forest_store.proofs.Common.{Cause, same_key, when, In-find, and_left, both_ways, false_if, same_key-true, Node}
-use Rattle.forest_store.proofs.Common.{has_strong, waiting, Collection, is_ready_node, is_root_left}
-use Rattle.forest_store.proofs.Common.{heads_itself, Decision, Loses, IsSound, is_root_of, option_map}
+use Rattle.forest_store.proofs.Common.{Bool, Cause, Collection, Decision, In-find, IsSound, List, Loses, Node, NodeKey, None, Option}
+use Rattle.forest_store.proofs.Common.{Some, and_left, ap, both_ways, false, false_if, find, has_strong, is_none, is_ready_node}
+use Rattle.forest_store.proofs.Common.{is_root_left, is_root_of, list_all, list_any, map, not, option_and_then, option_map, option_map_or}
+use Rattle.forest_store.proofs.Common.{refl, same_key, same_key-true, true, waiting, when, ◌&&◌, ◌||◌, ◌∙◌, ◌≡◌}
 use Rattle.forest_store.specs.Falls.{given_all}
 use Rattle.forest_store.proofs.lists.Elements.{all_map, find_map}
 use Rattle.forest_store.proofs.quiescence.Steps.{all-In, found_by_key}
@@ -38,8 +37,7 @@ module _ (c : Collection) (sound : IsSound c) (hs : List NodeKey) (children : Ar
   root_same r e =
       let on = In-find _ _ r e in
       let root : is_none r.parent ≡ true = and_left _ _ on.1 in
-      let own : heads_itself r ≡ true = all-In _ _ r on.0 sound.heads in
-      let head : same_key r.head r.key ≡ true = rw root at own in
+      let head : same_key r.head r.key ≡ true = rw root at (all-In _ _ r on.0 sound.heads) in
       let found : is_root_of c r.key ≡ is_none r.parent =
       ap (λ (o : Option Node). option_map_or (λ (m : Node). is_none m.parent) o false) (found_by_key _ r sound.distinct on.0) in
       ap (λ (b : Bool). b || r.allocated) (false_if _ (λ s.

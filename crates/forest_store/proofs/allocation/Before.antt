@@ -128,8 +128,7 @@ module _ (t : Table Node) (ss : List CollectionRow) (kept : IsStored t ss) (s : 
     | inr e ↦
         let p = some_there (λ p. list_any (λ (q : Node). is_of p q && list_any (same_key q.head) hs) nodes) m.parent h in
         let q = In-list_any (λ (q : Node). is_of p.0 q && list_any (same_key q.head) hs) nodes p.2 in
-        let at : node_at t p.0 ≡ Some q.0 =
-        ap (node_at t) (sym (same_key-true q.0.key p.0 (and_left (is_of p.0 q.0) _ q.2))) ∙ at_key q.0 q.1 in
+        let at = ap (node_at t) (sym (same_key-true q.0.key p.0 (and_left (is_of p.0 q.0) _ q.2))) ∙ at_key q.0 q.1 in
         let unit : is_of_some t hs p.0 ≡ true =
         ap (λ (o : Option Node). option_map_or (λ (x : Node). list_any (same_key x.head) hs) o false) at
         ∙ and_right (is_of p.0 q.0) _ q.2 in

@@ -63,8 +63,7 @@ found_put s [] rising found = absurd (cc)
 found_put s (x ∷ xs) rising found = cases_place _ _ _
     (λ same. let one : x ≡ s = Some-row x s (rw same at found) in rw same (ap (λ y. y ∷ xs) (sym one)))
     (λ other above.
-    let less : s.id < x.id = ltb-true _ _ above in
-    let none = none_above _ _ (above-weaker _ _ _ less rising.0) in
+    let none = none_above _ _ (above-weaker _ _ _ (ltb-true _ _ above) rising.0) in
     absurd (cc)) (λ other below. rw (other, below) (ap (λ l. x ∷ l) (found_put s xs rising.1 (rw other at found))))
 
 -- the nodes of filed keys are of the collection
@@ -98,8 +97,7 @@ there_kept-by : (t : Table Node) (ss : List CollectionRow) → IsStored t ss →
     is_some (find (λ (s : CollectionRow). s.id == id) ss) ≡ true
 there_kept-by t ss ok id key None is there = absurd (false≢true there)
 there_kept-by t ss ok id key (Some n) is there =
-    let own : n.collection ≡ id = eqb-true _ _ (and_left _ _ there) in
-    rw (← own) (kept_of t _ _ n ok.filed is (ok.there key n is))
+    rw (← (eqb-true _ _ (and_left _ _ there))) (kept_of t _ _ n ok.filed is (ok.there key n is))
 
 -- a key that is in the collection, and its collection
 there_kept : (t : Table Node) (ss : List CollectionRow) → IsStored t ss → (id : ℕ) (key : NodeKey) →

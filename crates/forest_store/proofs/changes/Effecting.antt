@@ -240,8 +240,7 @@ module _ (t now : Table Node) (us : List Unit) (key : NodeKey) (effect : Effect)
     stays_one k m at differ inside = (
       subst (λ (l : ℕ). k.slot < l) (sym (length-set us n.head.slot next)) inside,
       get_or-set_other us n.head.slot k.slot next no_unit (λ slots.
-          let one : k ≡ n.head = one_slot t k n.head m head.0 at head_at slots in
-          let both : Some m ≡ Some head.0 = sym at ∙ (ap (node_at t) one ∙ head_at) in
+          let both : Some m ≡ Some head.0 = sym at ∙ (ap (node_at t) (one_slot t k n.head m head.0 at head_at slots) ∙ head_at) in
           let node : m ≡ head.0 = cc in
           let of : head.0.collection ≡ s.id = eqb-true head.0.collection s.id
           (all-In (λ (x : Node). x.collection == s.id) nodes head.0 head.1
@@ -273,8 +272,7 @@ module _ (t now : Table Node) (us : List Unit) (key : NodeKey) (effect : Effect)
         one_of : (x : Node) → In x nodes → (same_key n.head x.key ≡ true) ⊎ (same_key n.head x.key ≡ false) →
             HasUnit after_one (map f nodes) x
         one_of x there (inl e) =
-            let below : next.below ≡ times (heads_below (map f nodes) n.head) (map f nodes) =
-            below_next ∙ ap (λ (u : Unit). u.below) unit_is ∙ sym (below_same n.head) in
+            let below = below_next ∙ ap (λ (u : Unit). u.below) unit_is ∙ sym (below_same n.head) in
             subst (λ (k : NodeKey). (k.slot < length after_one) × (unit_at after_one k.slot ≡ unit_of (map f nodes) k))
             (same_key-true _ _ e) (
               rw (length-set us n.head.slot next) within,
@@ -285,7 +283,6 @@ module _ (t now : Table Node) (us : List Unit) (key : NodeKey) (effect : Effect)
             let had = in_all _ _ unit_has x there in (
               rw (length-set us n.head.slot next) had.0,
               get_or-set_other us n.head.slot x.key.slot next no_unit (λ slots.
-                  let one : x.key ≡ n.head = one_slot t _ _ x _ (at_key x there) head_at slots in
-                  both_ways _ (ap (same_key n.head) one ∙ same_key-refl n.head) e)
+                  both_ways _ (ap (same_key n.head) (one_slot t _ _ x _ (at_key x there) head_at slots) ∙ same_key-refl n.head) e)
                   ∙ (had.1 ∙ sym (other_unit _ e)),
             )

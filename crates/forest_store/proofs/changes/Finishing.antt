@@ -128,8 +128,7 @@ module _ (t now : Table Node) (id : ℕ) (ns : List Node) (stores : Stores t now
       let was = found-before key _ n (sym (stores.look key) ∙ is) in
       given-same t now first nexts n.head ∙ (elim (stored_one ns was.0) [
         | inl same ↦
-            let one : was.0 ≡ n = sym same ∙ was.3 in
-            ap (λ (x : Node). was_given t x.head) (sym one) ∙ heads key was.0 was.1
+            ap (λ (x : Node). was_given t x.head) (sym (sym same ∙ was.3)) ∙ heads key was.0 was.1
         | inr on ↦ in_all _ _ all n (rw (← was.3) on)
       ])
 

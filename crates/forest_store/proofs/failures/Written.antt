@@ -39,9 +39,8 @@ module _ (t : Table Node) (named : (key : NodeKey) (n : Node) → node_at t key 
       by None at = refl
       by (Some n) at =
           let key : n.key ≡ k = named k n at in
-          let none : list_any (same_key n.key) done ≡ false = ap (λ (j : NodeKey). list_any (same_key j) done) key ∙ apart in
           ap Some (stored_goes t named _ done n (ap (node_at t) key ∙ at) n (inl refl)
-          ∙ (λ i. if none i then gone_by going n else n))
+          ∙ (λ i. if (ap (λ (j : NodeKey). list_any (same_key j) done) key ∙ apart) i then gone_by going n else n))
 
   -- a removed node keeps its head
   head_still : (p : NodeKey) → head_of u p ≡ head_of t p
@@ -51,8 +50,7 @@ module _ (t : Table Node) (named : (key : NodeKey) (n : Node) → node_at t key 
           option_map (λ (n : Node). n.head) (option_map (stored went) o) ≡ option_map (λ (n : Node). n.head) o
       by None at = refl
       by (Some n) at =
-          let key : n.key ≡ p = named p n at in
-          ap Some (ap (λ (m : Node). m.head) (stored_goes t named _ done n (ap (node_at t) key ∙ at) n (inl refl))
+          ap Some (ap (λ (m : Node). m.head) (stored_goes t named _ done n (ap (node_at t) (named p n at) ∙ at) n (inl refl))
           ∙ (same_of going done n).head)
 
   -- so the unit right above is the same
@@ -90,8 +88,7 @@ module _ (t : Table Node) (named : (key : NodeKey) (n : Node) → node_at t key 
       by n at =
           let is : node_at u k ≡ Some n = still_there ∙ at in
           let key : k ≡ (gone_by going n).key = sym ((gone_same going n).key ∙ named k n at) in
-          let more : nodes_with t (done ++ k ∷ []) ≡ nodes_with t done ++ n ∷ [] =
-          with_more ∙ ap (λ (o : Option Node). nodes_with t done ++ cons_option o []) at in
+          let more = with_more ∙ ap (λ (o : Option Node). nodes_with t done ++ cons_option o []) at in
           subst (λ (ns : List Node). Stores t now (map (gone_by going) ns)) (sym more)
           (subst (Stores t now) (sym (map-append (gone_by going) (nodes_with t done) (n ∷ [])))
           (Stores-more t u _ _ _ named stores (rw (← key) (becomes n is)) (rw (← key) (writes n is))))
@@ -114,10 +111,9 @@ went_now t named going keys now stores = among _ (λ k on. on)
     find_gone k on None at = stores.look k ∙ ap (option_map (stored (map (gone_by going) (nodes_with t keys)))) at
     find_gone k on (Some n) at =
         let key : n.key ≡ k = named k n at in
-        let there : list_any (same_key n.key) keys ≡ true = ap (λ (j : NodeKey). list_any (same_key j) keys) key ∙ on in
         stores.look k ∙ ap (option_map (stored (map (gone_by going) (nodes_with t keys)))) at
         ∙ ap Some (stored_goes t named _ keys n (ap (node_at t) key ∙ at) n (inl refl)
-        ∙ (λ i. if there i then gone_by going n else n))
+        ∙ (λ i. if (ap (λ (j : NodeKey). list_any (same_key j) keys) key ∙ on) i then gone_by going n else n))
 
     -- by cases on the first node
     mapped : (o : Option Node) (ns : List Node) →

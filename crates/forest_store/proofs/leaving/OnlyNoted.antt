@@ -47,11 +47,8 @@ module _ (t : Table Node) (e : Entry) (can : IsForgettable t e) (unkept_known : 
           is_left_by t unkept k ≡ is_found now k
       from k on None is filed = absurd (cc)
       from k on (Some n) is filed =
-          let there : list_any (same_key k) keys ≡ true = own_key keys k on in
-          let now_is : node_at now k ≡ unless_unkept (Some n) = look k ∙ rw there (ap unless_unkept is) in
-          let left : is_left_by t unkept k ≡ not (list_any (same_key k) unkept && is_unkept n) =
-          ap (λ (o : Option Node). not (list_any (same_key k) unkept && option_map_or is_unkept o false)) is in
-          left ∙ (by (either_way (is_unkept n)) ∙ ap is_some (sym now_is))
+          let left = ap (λ (o : Option Node). not (list_any (same_key k) unkept && option_map_or is_unkept o false)) is in
+          left ∙ (by (either_way (is_unkept n)) ∙ ap is_some (sym (look k ∙ rw (own_key keys k on) (ap unless_unkept is))))
         where
           by : (is_unkept n ≡ true) ⊎ (is_unkept n ≡ false) → not (list_any (same_key k) unkept && is_unkept n)
               ≡ is_some (unless_unkept (Some n))

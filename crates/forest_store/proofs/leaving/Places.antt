@@ -1,10 +1,37 @@
--- A key of a list in which no key stands twice, and its place.
-use Rattle.forest_store.proofs.Common.{◌≡◌, ℕ, zero, suc, ◌<◌, refl, ap, sym, ◌∙◌, subst, Bool, true, false, not, ◌==◌, cond, get_or}
-use Rattle.forest_store.proofs.Common.{List, [], ◌∷◌, ◌++◌, length, Some, arith, filter, find, list_any, false≢true, not-true}
-use Rattle.forest_store.proofs.Common.{NodeKey, same_key, and_both, and_left, and_right, false_if, or_left, or_right, same_key-refl}
-use Rattle.forest_store.proofs.Common.{same_key-true, CollectionRow, all_keys, remove, list_any-append, or_none_left, are_apart}
+-- A key that is taken out of a list whose first cells are left over. A key of a list in which no key stands twice, and its place.
+use Rattle.forest_store.proofs.Common.{Bool, CollectionRow, List, NodeKey, Some, [], all_keys, and_both, and_left, and_right, ap}
+use Rattle.forest_store.proofs.Common.{append_assoc, are_apart, arith, cond, copy_within, drop, drop-drop, drop_at, false, false_if}
+use Rattle.forest_store.proofs.Common.{false≢true, filter, find, get_or, length, length-take-le, list_any, list_any-append, not, not-true}
+use Rattle.forest_store.proofs.Common.{or_left, or_none_left, or_right, refl, remove, same_key, same_key-refl, same_key-true, subst, suc}
+use Rattle.forest_store.proofs.Common.{sym, take, take-append-drop, true, zero, ℕ, ◌++◌, ◌+◌, ◌-◌, ◌<◌, ◌==◌, ◌∙◌, ◌∷◌, ◌≡◌, ◌≤◌}
+use Rattle.std.proofs.lemmas.List.Edits.{remove-append_right}
 use Rattle.forest_store.proofs.leaving.Thinning.{lacks-filter}
 use Rattle.forest_store.proofs.changes.Altering.{Some-row}
+
+-- those before it move up by one, over it
+pub moved_over : {X : Type 0} (xs : List X) (from to : ℕ) → from ≤ to → to < length xs →
+    drop (from + 1) (copy_within xs from to (from + 1)) ≡ remove (drop from xs) (to - from)
+moved_over xs from to order within =
+    let rest = drop from xs in
+    let n : ℕ = to - from in
+    let place : from + suc n ≡ from + 1 + n = omega arith in
+    ap (drop (from + 1)) (append_assoc (take (from + 1) xs) (take n rest) (drop (from + 1 + n) xs))
+    ∙ drop_at (take (from + 1) xs) (take n rest ++ drop (from + 1 + n) xs) (from + 1) (length-take-le (from + 1) xs (omega arith))
+    ∙ ap (λ k. take n rest ++ drop k xs) (sym place)
+    ∙ ap (λ r. take n rest ++ r) (sym (drop-drop (suc n) from xs))
+
+-- or those behind it move down
+pub moved_down : {X : Type 0} (xs : List X) (front at : ℕ) → front ≤ length xs →
+    drop front (remove xs (front + at)) ≡ remove (drop front xs) at
+moved_down xs front at within =
+    let low : length (take front xs) ≡ front = length-take-le front xs within in
+    let same : front + at - front ≡ at = omega arith in
+    ap (λ ys. drop front (remove ys (front + at))) (sym (take-append-drop front xs))
+    ∙ ap (drop front) (remove-append_right _ _ _ _ low (omega arith))
+    ∙ drop_at (take front xs) (remove (drop front xs) (front + at - front)) front low
+    ∙ ap (remove (drop front xs)) same
+
+-- ---- a key of a list in which no key stands twice, and its place
 
 -- what stands at a place is listed
 pub listed_at : (key : NodeKey) (ks : List NodeKey) (at : ℕ) → at < length ks → get_or ks at key ≡ key → list_any (same_key key) ks ≡ true

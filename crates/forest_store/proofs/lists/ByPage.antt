@@ -1,8 +1,27 @@
--- Intervals in order of page, as a pool keeps them.
-use Rattle.forest_store.proofs.Common.{cases_eq, ℕ, ◌≡◌, refl, ap, sym, ◌∙◌, Bool, true, false, nat_lt, cond, List, [], ◌∷◌}
-use Rattle.forest_store.proofs.Common.{◌++◌, map, inl, inr, list_any, Interval, insert_by, by_page, with_buffers, with_interval, arith}
+-- Tests that say the same. Intervals in order of page, as a pool keeps them.
+use Rattle.forest_store.proofs.Common.{Bool, Interval, List, [], ap, arith, by_page, cases_eq, cond, false, inl, inr, insert_by, list_any}
+use Rattle.forest_store.proofs.Common.{map, nat_lt, not, refl, sym, true, with_buffers, with_interval, ℕ, ◌&&◌, ◌++◌, ◌||◌, ◌∙◌, ◌∷◌, ◌≡◌}
 use Rattle.sm_names.specs.Apart.{at_pages}
 use Rattle.forest_store.proofs.lists.SameIntervals.{any-sorted, insert-swap}
+
+-- the same behind another
+pub and_again_behind : (a r b : Bool) → (a && (r && (a && b))) ≡ (r && (a && b))
+and_again_behind a r b = grind arith
+
+-- the same in front of a pair
+pub and_again_pair : (a b c : Bool) → (a && ((a && b) && c)) ≡ ((a && b) && c)
+and_again_pair a b c = grind arith
+
+-- the same, with the others in another order
+pub and_again_swap : (a u r : Bool) → (a && (u && (a && r))) ≡ ((a && r) && u)
+and_again_swap a u r = grind arith
+
+-- what need not be settled twice
+pub settled_once : (gone apart settled : Bool) →
+    (not (not gone) || (not apart || (gone || settled))) ≡ (gone || (not apart || settled))
+settled_once gone apart settled = grind arith
+
+-- ---- intervals in order of page, as a pool keeps them
 
 -- with one more, in its place
 abbrev pub put_in : Interval → List Interval → List Interval

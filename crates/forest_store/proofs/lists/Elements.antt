@@ -1,8 +1,9 @@
--- What holds of the elements of a list, and what is found, kept or made of them.
-use Rattle.forest_store.proofs.Common.{◌&&◌, ◌+◌, find, list_all, list_any-map, option_map, times, ◌≡◌, refl, ap}
-use Rattle.forest_store.proofs.Common.{sym, ◌∙◌, subst, Bool, true, false, inl, inr, List, [], ◌∷◌, map, Option}
-use Rattle.forest_store.proofs.Common.{Some, None, is_some, cond, AllByRecursion, cons_option, filter, filter_map}
-use Rattle.forest_store.proofs.Common.{list_any, In, In-any, In-filter, In-list_any, both_ways, false_if, arith}
+-- What holds of the elements of a list, and what is found, kept or made of them. A list that is made of another, element by element,
+-- grows by what is made of the next.
+use Rattle.forest_store.proofs.Common.{AllByRecursion, Bool, In, In-any, In-filter, In-list_any, List, None, Option, Some, [], ap, arith}
+use Rattle.forest_store.proofs.Common.{both_ways, cond, cons_option, false, false_if, filter, filter_map, find, inl, inr, is_some, length}
+use Rattle.forest_store.proofs.Common.{list_all, list_any, list_any-map, map, option_map, refl, subst, sym, take, take_all, times, true}
+use Rattle.forest_store.proofs.Common.{ℕ, ◌&&◌, ◌++◌, ◌+◌, ◌∙◌, ◌∷◌, ◌≡◌, ◌≤◌}
 
 -- ---- all
 
@@ -111,3 +112,14 @@ find_map p q f xs same = find_made p q f xs same
 pub times_map : {A : Type 0} (p q : A → Bool) (f : A → A) (xs : List A) → ((x : A) → p (f x) ≡ q x) → times p (map f xs) ≡ times q xs
 times_map p q f [] same = refl
 times_map p q f (x ∷ xs) same = λ i. cond (same x i) (times_map p q f xs same i + 1) (times_map p q f xs same i)
+
+-- ---- a list that is made of another, element by element, grows by what is made of the next
+
+module _ {A B : Type 0} (F : List A → List B) where
+  -- the first elements up to the end are all
+  pub made_all : (xs : List A) (i : ℕ) → length xs ≤ i → (made : List B) → made ≡ F (take i xs) → made ≡ F xs
+  made_all xs i l made m = m ∙ ap F (take_all i xs l)
+
+  -- so they are behind others
+  pub behind_all : (xs : List A) (i : ℕ) → length xs ≤ i → (others made : List B) → made ≡ others ++ F (take i xs) → made ≡ others ++ F xs
+  behind_all xs i l others made m = m ∙ ap (λ (ys : List A). others ++ F ys) (take_all i xs l)

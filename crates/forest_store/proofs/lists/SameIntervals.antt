@@ -109,8 +109,7 @@ none_before : (low high : ℕ) (x : Interval) (is : List Interval) → in_order 
 none_before low high x [] ok below = refl
 none_before low high x (i ∷ is) ok below =
     let from : low ≤ i.start = leb-true _ _ (and_left _ _ ok) in
-    let other : (i.start == x.start) ≡ false = ne_eqb _ _ (λ same. omega arith) in
-    rw (other) (none_before (end_of i) high x is (and_right _ _ (and_right _ _ ok)) (omega arith))
+    rw (ne_eqb _ _ (λ same. omega arith)) (none_before (end_of i) high x is (and_right _ _ (and_right _ _ ok)) (omega arith))
 
 -- intervals in order are parted
 pub parted-in_order : (low high : ℕ) (is : List Interval) → in_order low high is ≡ true → starts_differ is ≡ true

@@ -114,9 +114,8 @@ module _ {A : Type 0} (number : A → ℕ) where
       | inr f ↦
           let far : number y ≤ number x = ltb-false (number x) (number y) e in
           let near : number x ≤ number y = ltb-false (number y) (number x) f in
-          let other : beside x y ≡ true = eq-eqb (number x) (number y) (omega arith) in
           let first : filter (beside x) (x ∷ xs) ≡ x ∷ filter (beside x) xs = rw (beside_itself x) refl in
-          let second : filter (beside x) (y ∷ ys) ≡ y ∷ filter (beside x) ys = rw other refl in
+          let second : filter (beside x) (y ∷ ys) ≡ y ∷ filter (beside x) ys = rw (eq-eqb (number x) (number y) (omega arith)) refl in
           let heads : x ∷ filter (beside x) xs ≡ y ∷ filter (beside x) ys = sym first ∙ (same x ∙ second) in
           let is : x ≡ y = cc in
           let rests : (z : A) → filter (beside z) xs ≡ filter (beside z) ys = λ z.

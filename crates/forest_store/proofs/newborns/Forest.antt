@@ -1,12 +1,12 @@
 -- What stays true of a forest with one node more.
-use Rattle.forest_store.proofs.Common.{all_on, and_both, map-In, ◌≡◌, ℕ, suc, ◌<◌, ◌==◌, ◌⊎◌, Bool, true, false, ◌||◌, List, []}
-use Rattle.forest_store.proofs.Common.{◌∷◌, ◌++◌, map, length, Option, Some, None, refl, sym, ap, subst, ◌∙◌, inl, inr, arith}
-use Rattle.forest_store.proofs.Common.{list_any, list_all, find, cons_option, AllByRecursion, option_map_or, eq-eqb, false≢true}
-use Rattle.forest_store.proofs.Common.{NodeKey, same_key, HeldBuffer, and_left, and_right, or_right, same_key-true, some-injective}
-use Rattle.forest_store.proofs.Common.{Table, node_at, parent_at, Node, Collection, CollectionRow, AreRising, IsStored, IsWhole, put_row}
-use Rattle.forest_store.proofs.Common.{collection_in, nodes_with, forest_of, all_keys, are_filed, is_filed, put, append_assoc}
-use Rattle.forest_store.proofs.Common.{flat_map, ltb-true, filter_map-append, list_any-append, was_given, key_cases}
-use Rattle.forest_store.proofs.Common.{same_key-equal, same_key-apart, all_held, AreKin, Bears, are_apart, list_all-append}
+use Rattle.forest_store.proofs.Common.{AllByRecursion, AreKin, AreRising, Bears, Bool, Collection, CollectionRow, HeldBuffer, IsStored}
+use Rattle.forest_store.proofs.Common.{IsWhole, List, Node, NodeKey, None, Option, Some, Table, [], all_held, all_keys, all_on, and_both}
+use Rattle.forest_store.proofs.Common.{and_left, and_right, ap, append_assoc, are_apart, are_filed, arith, collection_in, cons_option}
+use Rattle.forest_store.proofs.Common.{eq-eqb, false, false≢true, filter_map-append, find, flat_map, forest_of, inl, inr, is_filed}
+use Rattle.forest_store.proofs.Common.{key_cases, length, list_all, list_all-append, list_any, list_any-append, ltb-true, map, map-In}
+use Rattle.forest_store.proofs.Common.{node_at, nodes_with, option_map_or, or_right, parent_at, put, put_row, refl, same_key}
+use Rattle.forest_store.proofs.Common.{same_key-apart, same_key-equal, same_key-true, some-injective, subst, suc, sym, true, was_given, ℕ}
+use Rattle.forest_store.proofs.Common.{◌++◌, ◌==◌, ◌||◌, ◌∙◌, ◌∷◌, ◌≡◌, ◌⊎◌}
 use Rattle.forest_store.proofs.Basics.{all-In, each_none, made-In, or_swap, part_swap, none_above, whole-map, whole-unmap}
 use Rattle.forest_store.proofs.Basics.{same_key-swap, given_there, cases_place, rising-put, above-weaker, put-map}
 
@@ -71,9 +71,7 @@ keys-born new key [] rising keys = rw keys (SameKeys-refl _)
 keys-born new key (s ∷ ss) rising keys = cases_place _ _ _ (λ same.
     let own : new.keys ≡ s.keys ++ key ∷ [] = rw same at keys in
     rw (same, own, append_assoc s.keys (key ∷ []) (all_keys ss)) (SameKeys-move s.keys key _)) (λ other above.
-    let less : new.id < s.id = ltb-true _ _ above in
-    let none = none_above _ _ (above-weaker _ _ _ less rising.0) in
-    let own : new.keys ≡ key ∷ [] = rw (other, none) at keys in
+    let own : new.keys ≡ key ∷ [] = rw (other, none_above _ _ (above-weaker _ _ _ (ltb-true _ _ above) rising.0)) at keys in
     rw (other, above, own) (SameKeys-refl _)) (λ other below.
     let own : new.keys ≡ keys_before new.id ss ++ key ∷ [] = rw other at keys in
     rw (other, below) (SameKeys-trans _ _ _ (SameKeys-front s.keys _ _
@@ -85,9 +83,7 @@ pub helds-born : (new : CollectionRow) (ss : List CollectionRow) → AreRising s
 helds-born new [] rising held = rw held refl
 helds-born new (s ∷ ss) rising held = cases_place _ _ _
     (λ same. let own : new.held ≡ s.held = rw same at held in rw (same, own) refl) (λ other above.
-    let less : new.id < s.id = ltb-true _ _ above in
-    let none = none_above _ _ (above-weaker _ _ _ less rising.0) in
-    let own : new.held ≡ [] = rw (other, none) at held in
+    let own : new.held ≡ [] = rw (other, none_above _ _ (above-weaker _ _ _ (ltb-true _ _ above) rising.0)) at held in
     rw (other, above, own) refl) (λ other below.
     let own : new.held ≡ held_before new.id ss = rw other at held in
     rw (other, below) (ap (λ l. s.held ++ l) (helds-born new ss rising.1 own)))
@@ -104,8 +100,7 @@ filed-born : (t : Table Node) (new : CollectionRow) (ss : List CollectionRow) �
 filed-born t new [] own all = rw own refl
 filed-born t new (s ∷ ss) own all = cases_place s.id new.id (are_filed t (put_row new (s ∷ ss)) ≡ true)
     (λ same. rw (same, own) (and_right _ _ all)) (λ other above. rw (other, above, own) all) (λ other below.
-    let first : list_all (is_filed t s.id) s.keys ≡ true = and_left _ _ all in
-    rw (other, below, first) (filed-born t new ss own (and_right _ _ all)))
+    rw (other, below, and_left _ _ all) (filed-born t new ss own (and_right _ _ all)))
 
 -- a collection more that is whole
 whole-born : (new : Collection) (cs : List Collection) → IsWhole new → AllByRecursion IsWhole cs → AllByRecursion IsWhole (put new cs)
@@ -245,12 +240,10 @@ module _ (t now : Table Node) (node : Node) (bears : Bears t now node) where
                 ap (λ (m : Node). m.collection) (sym own) ∙ at.2 ∙ ap (λ (m : Node). m.collection) one
           ]
       | inr differ ↦
-          let low : node_at t key ≡ Some n = sym (bears.look key ∙ rw (same_key-apart node.key key differ) refl) ∙ is in
-          let mother : parent_at t key ≡ Some p =
-          sym (bears.parents key ∙ rw (same_key-apart node.key key differ) refl) ∙ up in
+          let mother = sym (bears.parents key ∙ rw (same_key-apart node.key key differ) refl) ∙ up in
           elim (found_more p q high) [
             | inl new ↦ absurd (false≢true (sym bears.gives.fresh ∙ ap (was_given t) new.0 ∙ ok.parents key p mother))
-            | inr was ↦ ok.kin key p n q low mother was
+            | inr was ↦ ok.kin key p n q (sym (bears.look key ∙ rw (same_key-apart node.key key differ) refl) ∙ is) mother was
           ]
     ]
 

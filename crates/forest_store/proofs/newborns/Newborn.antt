@@ -83,10 +83,8 @@ pub distinct-more : (ns : List Node) (node : Node) → list_any (is_of node.key)
     are_distinct (ns ++ node ∷ []) ≡ true
 distinct-more [] node none ok = refl
 distinct-more (n ∷ ns) node none ok =
-    let other : same_key node.key n.key ≡ false = same_key-swap _ n.key ∙ or_none_left _ _ none in
-    let apart : list_any (is_of n.key) ns ≡ false = not-true _ (and_left _ _ ok) in
     let rest = distinct-more ns node (or_none_right _ _ none) (and_right _ _ ok) in
-    rw (list_any-append _ ns _, apart, other, rest) refl
+    rw (list_any-append _ ns _, not-true _ (and_left _ _ ok), same_key-swap _ n.key ∙ or_none_left _ _ none, rest) refl
 
 -- only the first may be a root
 one_root-more : (ns : List Node) (node : Node) → (is_some node.parent ≡ true) ⊎ (ns ≡ []) →

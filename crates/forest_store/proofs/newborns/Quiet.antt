@@ -92,8 +92,7 @@ module _ (t now : Table Node) (ss : List CollectionRow) (ok : IsStored t ss) (id
         e.reserved ≡ reserved_count c0.nodes →
         (e.unkept_known ≡ true → list_any (unkept_except e.unkept.items) c0.nodes ≡ false) → IsCounted now e
     counted_born calm e is strong reserved unkept_known =
-        let shown : collection_in now (row_of e) ≡ born_collection t now ss ok id parent _ client event above at key bears =
-        ap (collection_in now) (is ∙ row_is) ∙ born_shown t now ss ok id parent _ client event above at key bears in
+        let shown = ap (collection_in now) (is ∙ row_is) ∙ born_shown t now ss ok id parent _ client event above at key bears in
         record {
           calm = subst IsQuiescent (sym (shown ∙ sym grown_is)) (births_calm _ calm parent _ client event _ fresh
               (no_children _ _ (before_is t _ ok id).whole.rooted fresh));

@@ -132,9 +132,8 @@ module _ (t : Table Node) (ss : List CollectionRow) (kept : IsStored t ss) (id :
       last (inl is) =
           let l : times (lives_in node.key) old ≡ 0 = times-zero _ _ (λ m o. (none_counted m o).0) in
           let w : times (waits_in node.key) old ≡ 0 = times-zero _ _ (λ m o. (none_counted m o).1) in
-          let b : times (heads_below old node.key) old ≡ 0 = sym (below_old _) ∙ times-zero _ _ none_counted_above in
           rw is (get_or-set_same us node.key.slot no_unit no_unit own_inside
-          ∙ (λ i. record { live = sym l i; unready = sym w i; below = sym b i }))
+          ∙ (λ i. record { live = sym l i; unready = sym w i; below = sym (sym (below_old _) ∙ times-zero _ _ none_counted_above) i }))
       last (inr none) = absurd none
 
   -- the slot of each head has its old counts and those of the new node
@@ -169,8 +168,7 @@ module _ (t : Table Node) (ss : List CollectionRow) (kept : IsStored t ss) (id :
     where
       head_of : (n : Node) → In n nodes → (m : Node) → In m (node ∷ []) → m.gone ≡ false → m.head.slot ≡ n.key.slot → m.head ≡ n.key
       head_of n there m (inl is) stays slots =
-          let one : node.head ≡ n.key =
-          one_slot t node.head n.key head.0 n head_at (at n there) (ap (λ (x : Node). x.head.slot) (sym is) ∙ slots) in
+          let one = one_slot t node.head n.key head.0 n head_at (at n there) (ap (λ (x : Node). x.head.slot) (sym is) ∙ slots) in
           ap (λ (x : Node). x.head) is ∙ one
       head_of n there m (inr none) stays slots = absurd none
 
@@ -277,8 +275,7 @@ module _ (t now : Table Node) (ss : List CollectionRow) (ok : IsStored t ss) (id
   newborn_units us all inside few =
       let own : c0.id ≡ id = before_it.id_is in
       let named : child.key ≡ key = key_is t now ss ok id parent _ client event above up key bears in
-      let found_key : node_at now key ≡ Some child = bears.look key
-      ∙ rw (ap (λ (k : NodeKey). same_key k key) named ∙ same_key-refl key) refl in
+      let found_key = bears.look key ∙ rw (ap (λ (k : NodeKey). same_key k key) named ∙ same_key-refl key) refl in
       let one : nodes_with now (key ∷ []) ≡ child ∷ [] = ap (λ (o : Option Node). cons_option o []) found_key in
       let long = filed-length now (row_by with_it).id (row_by with_it).keys filed_keys in
       let short : length (nodes_with now (row_by with_it).keys) ≤ 18446744073709551615 =

@@ -13,7 +13,7 @@ use Rattle.forest_store.proofs.Common.{initial_failure, greatest, wanted, asked,
 use Rattle.sm_names.specs.Pages.{places, pages_of}
 use Rattle.forest_store.proofs.lists.Filters.{any-map_filter, all-map_filter, find-map_filter}
 use Rattle.forest_store.proofs.lists.Filters.{any-filter, all-filter, made-filter_map, above_greatest}
-use Rattle.forest_store.proofs.lists.Booleans.{and_again_behind, and_again_pair, and_again_swap, settled_once}
+use Rattle.forest_store.proofs.lists.ByPage.{and_again_behind, and_again_pair, and_again_swap, settled_once}
 
 -- a node that is not gone
 abbrev left : Node → Bool

@@ -35,9 +35,7 @@ found_by_key (m ∷ ns) n h (inr on) = rw other (found_by_key ns n (and_right _ 
     -- since a node behind with the key of this one would be a second
     other : is_of n.key m ≡ false
     other = false_if _ (λ e.
-        let is : m.key ≡ n.key = same_key-true _ _ e in
-        let there : list_any (is_of m.key) ns ≡ true = In-any _ _ n on (rw is (same_key-refl n.key)) in
-        both_ways _ there none)
+        both_ways _ (In-any _ _ n on (rw (same_key-true _ _ e) (same_key-refl n.key))) none)
 
 -- ---- what a decision is on
 
@@ -122,11 +120,9 @@ module _ (c : Collection) (sound : IsSound c) where
   later_is b n e o =
       let f = In-find _ _ n e in
       let rest = and_right _ _ f.1 in
-      let stays : n.gone ≡ false = not-true n.gone (and_left _ _ rest) in
       let more = and_right _ _ rest in
-      let waits : n.allocated ≡ false = not-true n.allocated (and_left _ _ more) in
       let above = and_left _ _ (and_right _ _ more) in
-      from o f.0 (and_left _ _ f.1) stays waits (has_parent _ above)
+      from o f.0 (and_left _ _ f.1) (not-true n.gone (and_left _ _ rest)) (not-true n.allocated (and_left _ _ more)) (has_parent _ above)
     where
       has_parent : (p : Option NodeKey) →
           option_map_or (λ parent. list_any (is_allocated_node parent) c.nodes) p false ≡ true → is_none p ≡ false

@@ -104,12 +104,10 @@ together_given head nodes old = record {
   spared = λ a b on there unit own here bare.
       let x = In-map (given_buffers head) nodes a on in
       let y = In-map (given_buffers head) nodes b there in
-      let one : x.0.head ≡ y.0.key = heads x.0 a x.2 ∙ (unit ∙ keys y.0 b y.2) in
       let two : y.0.head ≡ y.0.key = heads y.0 b y.2 ∙ (own ∙ keys y.0 b y.2) in
-      let none : (same_key head y.0.head || y.0.allocated) ≡ false = ap (λ (n : Node). n.allocated) (sym y.2) ∙ bare in
       ap (λ (n : Node). n.gone) x.2
-      ∙ old.spared x.0 y.0 x.1 y.1 one two (ap (λ (n : Node). n.gone) (sym y.2) ∙ here)
-      (or_none_right (same_key head y.0.head) y.0.allocated none);
+      ∙ old.spared x.0 y.0 x.1 y.1 (heads x.0 a x.2 ∙ (unit ∙ keys y.0 b y.2)) two (ap (λ (n : Node). n.gone) (sym y.2) ∙ here)
+      (or_none_right (same_key head y.0.head) y.0.allocated (ap (λ (n : Node). n.allocated) (sym y.2) ∙ bare));
 }
   where
     -- since being given buffers keeps the head

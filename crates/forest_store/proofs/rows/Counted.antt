@@ -1,19 +1,19 @@
--- Entries that are counted stay so, where one is put among them.
-use Rattle.forest_store.proofs.Common.{In-map-back, ◌≡◌, ℕ, zero, suc, ◌<◌, ◌≤◌, ◌==◌, ◌&&◌, Bool, true, false, ◌⊎◌, inl, inr, List, []}
-use Rattle.forest_store.proofs.Common.{◌∷◌, map, length, get_or, set, if◌then◌else◌, Option, Some, None, option_map, is_some, sym, ap}
-use Rattle.forest_store.proofs.Common.{subst, ◌∙◌, refl, arith, AllByRecursion, cons_option, filter, list_all, list_any, eqb-true}
-use Rattle.forest_store.proofs.Common.{eqb-false, NodeKey, same_key, In, In-map, either_way, same_key-refl, same_key-true, In-any, Table}
-use Rattle.forest_store.proofs.Common.{node_at, Entry, Node, strong_count, unkept_except}
-use Rattle.forest_store.proofs.Common.{Collection, AreRising, IsWhole, CollectionRow, are_filed}
-use Rattle.forest_store.proofs.Common.{collection_in, is_filed, nodes_with, place_in, put_row, row_of, rows_of, is_unkept}
-use Rattle.forest_store.proofs.Common.{reserved_count, remove, ltb-true, times-le-length, AreCounted, IsQuiescent, IsCounted, put_in}
-use Rattle.forest_store.proofs.Common.{IsNotedIn, IsNoting, IsThinned, left_at, is_strong, is_spent, camped, AreCountedExcept, with_end}
+-- Entries that are counted stay so, where one is put among them. Entries of which one loses keys, or is removed.
+use Rattle.forest_store.proofs.Common.{AllByRecursion, AreCounted, AreCountedExcept, AreRising, Bool, Collection, CollectionRow, Entry}
+use Rattle.forest_store.proofs.Common.{In, In-any, In-map, In-map-back, IsCounted, IsNotedIn, IsNoting, IsQuiescent, IsThinned, IsWhole}
+use Rattle.forest_store.proofs.Common.{List, Node, NodeKey, None, Option, Some, Table, [], ap, are_filed, arith, camped, collection_in}
+use Rattle.forest_store.proofs.Common.{cons_option, either_way, eq-eqb, eqb-false, eqb-true, false, filter, find, get_or, if◌then◌else◌}
+use Rattle.forest_store.proofs.Common.{inl, inr, is_bare, is_filed, is_some, is_spent, is_strong, is_unkept, left_at, length, list_all}
+use Rattle.forest_store.proofs.Common.{list_any, ltb-true, map, node_at, nodes_with, option_map, place_in, put_in, put_row, refl, remove}
+use Rattle.forest_store.proofs.Common.{reserved_count, row_of, rows_of, same_key, same_key-refl, same_key-true, set, strong_count, subst}
+use Rattle.forest_store.proofs.Common.{suc, sym, thin_in, thinned, times-le-length, true, unkept_except, with_end, without_bare, zero, ℕ}
+use Rattle.forest_store.proofs.Common.{◌&&◌, ◌<◌, ◌==◌, ◌∙◌, ◌∷◌, ◌≡◌, ◌≤◌, ◌⊎◌}
 use Rattle.forest_store.specs.declared.node.End.{End}
-use Rattle.forest_store.proofs.leaving.Thinning.{none-filter}
-use Rattle.forest_store.proofs.Basics.{none_cases, place_cases, In-made, all_at, all_in, each_none, made-found, none_each}
-use Rattle.forest_store.proofs.Basics.{above-weaker, all_weaker, looked-of, IsPlain, calm_filter, calm_map, strong_filter}
-use Rattle.forest_store.proofs.Basics.{times_map, in_all, looked_there, looked-map, fewer_unkept, more_noted, not_unkept_but}
-use Rattle.forest_store.proofs.Basics.{noted_not, cases_place, filed-length, all-In, reserved_filter, reserved_map}
+use Rattle.forest_store.proofs.leaving.Thinning.{above_other, bare_others, none-filter, none_others, thin_others}
+use Rattle.forest_store.proofs.Basics.{In-made, IsPlain, above-weaker, all-In, all_at, all_in, all_weaker, calm_filter, calm_map}
+use Rattle.forest_store.proofs.Basics.{cases_place, each_none, fewer_unkept, filed-length, in_all, looked-map, looked-of, looked_there}
+use Rattle.forest_store.proofs.Basics.{made-found, more_noted, none_cases, none_each, none_in, not_unkept_but, noted_not, place_cases}
+use Rattle.forest_store.proofs.Basics.{reserved_filter, reserved_map, row_found, strong_filter, times_map}
 
 -- an entry that shows the same as another, with the same counts, is counted as that one is
 pub counted_as : {t now : Table Node} {e new : Entry} → collection_in now (row_of new) ≡ collection_in t (row_of e) →
@@ -96,11 +96,9 @@ module _ (t now : Table Node) (named : (k : NodeKey) (n : Node) → node_at t k 
   dropped_first k None ns is (inl same) = rw same refl
   dropped_first k None ns is (inr gone) = rw gone.0 refl
   dropped_first k (Some n) ns is (inl same) =
-      let there : is_some (node_at now n.key) ≡ true = ap (λ (x : NodeKey). is_some (node_at now x)) (named k n is) ∙ ap is_some same in
-      rw (same, there) refl
+      rw (same, ap (λ (x : NodeKey). is_some (node_at now x)) (named k n is) ∙ ap is_some same) refl
   dropped_first k (Some n) ns is (inr gone) =
-      let none : is_some (node_at now n.key) ≡ false = ap (λ (x : NodeKey). is_some (node_at now x)) (named k n is) ∙ ap is_some gone.0 in
-      rw (gone.0, none) refl
+      rw (gone.0, ap (λ (x : NodeKey). is_some (node_at now x)) (named k n is) ∙ ap is_some gone.0) refl
 
   -- by induction over the keys
   dropped_nodes : (keys : List NodeKey) → nodes_with now keys ≡ filter stays (nodes_with t keys)
@@ -291,3 +289,53 @@ set_rows (e ∷ es) (suc n) new same = ap (λ ss. row_of e ∷ ss) (set_rows es 
 pub count_few : (t : Table Node) (e : Entry) → list_all (is_filed t e.id) e.keys.items ≡ true → IsCounted t e →
     e.strong ≤ length e.keys.items
 count_few t e filed counted = grind (arith, times-le-length, filed-length)
+
+-- ---- entries of which one loses keys, or is removed
+
+-- where no entry has the id no row has it
+pub no_row : (id : ℕ) (es : List Entry) → place_in id es ≡ None → find (λ (s : CollectionRow). s.id == id) (rows_of es) ≡ None
+no_row id es none = row_found id es ∙ ap (option_map row_of) (none_in id es none)
+
+-- and nothing is removed
+pub bare_none : (id : ℕ) (es : List Entry) → place_in id es ≡ None → rows_of es ≡ without_bare id (rows_of es)
+bare_none id es none = sym (bare_others _ _ (none_others _ _ (no_row id es none)))
+
+-- the entry at the place of the id keeps the keys that the table has
+pub set_thin : (t : Table Node) (id : ℕ) (es : List Entry) (at : ℕ) (e : Entry) → AreRising (rows_of es) → place_in id es ≡ Some at →
+    row_of e ≡ thinned t (row_of (get_or es at e)) → rows_of (set es at e) ≡ thin_in t id (rows_of es)
+set_thin t id [] at e rising told is = absurd (cc)
+set_thin t id (x ∷ es) at e rising told is =
+    place_cases _ x _ at (λ at. row_of e ≡ thinned t (row_of (get_or (x ∷ es) at e)) →
+    rows_of (set (x ∷ es) at e) ≡ thin_in t id (rows_of (x ∷ es))) told
+    (λ same is. rw (same, thin_others t _ _ (above_other _ _ _ rising.0 same)) (ap (λ s. s ∷ rows_of es) is))
+    (λ n other told is. rw other (ap (λ l. row_of x ∷ l) (set_thin t id es n e rising.1 told is))) is
+
+-- the entry at the place of the id is removed, if it is bare
+pub remove_bare : (id : ℕ) (es : List Entry) (at : ℕ) (d : Entry) → AreRising (rows_of es) → place_in id es ≡ Some at →
+    is_bare (row_of (get_or es at d)) ≡ true → rows_of (remove es at) ≡ without_bare id (rows_of es)
+remove_bare id [] at d rising told bare = absurd (cc)
+remove_bare id (x ∷ es) at d rising told bare =
+    place_cases _ x _ at (λ at. is_bare (row_of (get_or (x ∷ es) at d)) ≡ true →
+    rows_of (remove (x ∷ es) at) ≡ without_bare id (rows_of (x ∷ es))) told
+    (λ same bare. rw (same, bare) (sym (bare_others _ _ (above_other _ _ _ rising.0 same))))
+    (λ n other told bare. rw other (ap (λ l. row_of x ∷ l) (remove_bare id es n d rising.1 told bare))) bare
+
+-- and stays, if it is not
+pub keep_bare : (id : ℕ) (es : List Entry) (at : ℕ) (d : Entry) → AreRising (rows_of es) → place_in id es ≡ Some at →
+    is_bare (row_of (get_or es at d)) ≡ false → rows_of es ≡ without_bare id (rows_of es)
+keep_bare id [] at d rising told bare = absurd (cc)
+keep_bare id (x ∷ es) at d rising told bare =
+    place_cases _ x _ at (λ at. is_bare (row_of (get_or (x ∷ es) at d)) ≡ false →
+    rows_of (x ∷ es) ≡ without_bare id (rows_of (x ∷ es))) told (λ same bare. rw (same, bare) (ap (λ l.
+    row_of x ∷ l) (sym (bare_others _ _ (above_other _ _ _ rising.0 same)))))
+    (λ n other told bare. rw other (ap (λ l. row_of x ∷ l) (keep_bare id es n d rising.1 told bare))) bare
+
+-- nor does one that is put in its place, if that is not bare
+pub keep_set : (id : ℕ) (es : List Entry) (at : ℕ) (e : Entry) → AreRising (rows_of es) → place_in id es ≡ Some at → e.id ≡ id →
+    is_bare (row_of e) ≡ false → without_bare id (rows_of (set es at e)) ≡ rows_of (set es at e)
+keep_set id [] at e rising told own bare = absurd (cc)
+keep_set id (x ∷ es) at e rising told own bare =
+    place_cases _ x _ at (λ at. without_bare id (rows_of (set (x ∷ es) at e)) ≡ rows_of (set (x ∷ es) at e)) told
+    (λ same. rw (eq-eqb e.id id own, bare) (ap (λ l.
+    row_of e ∷ l) (bare_others _ _ (above_other _ _ _ rising.0 same))))
+    (λ n other told. rw other (ap (λ l. row_of x ∷ l) (keep_set id es n e rising.1 told own bare)))

@@ -150,8 +150,7 @@ stands_at id es at d rising within same =
 pub stands_nowhere : (id : ℕ) (es : List Entry) (last : ℕ) (d : Entry) → AreRising (rows_of es) → last + 1 ≡ length es →
     (get_or es last d).id < id → place_in id es ≡ None
 stands_nowhere id es last d rising end less =
-    let all : length es ≡ before id es = before_greater id es last d rising end less in
-    place_none id es rising (λ other within same. absurd (omega (arith, all, within)))
+    place_none id es rising (λ other within same. absurd (omega (arith, before_greater id es last d rising end less, within)))
 
 -- an entry that is read in its own memory stands at the place at which that was read
 pub read_through : (es : List Entry) (at : ℕ) {boxed read : Entry} → read ≡ boxed → boxed ≡ get_or es at boxed → read ≡ get_or es at read
@@ -169,8 +168,7 @@ found_above : (id : ℕ) (es : List Entry) (at : ℕ) (x : CollectionRow) → Is
     AllByRecursion (λ (later : CollectionRow). x.id < later.id) (rows_of es) → x.id < id
 found_above id [] at x place all = absurd (omega (arith, place.within))
 found_above id (e ∷ es) at x place all =
-    let below : x.id < (get_or (e ∷ es) at e).id =
-    All-from_recursion (λ (later : Entry). x.id < later.id) (e ∷ es) (above_rows x.id (e ∷ es) all) at e place.within in
+    let below = All-from_recursion (λ (later : Entry). x.id < later.id) (e ∷ es) (above_rows x.id (e ∷ es) all) at e place.within in
     omega (arith, place.id_is e)
 
 -- an entry in the place of the one with its id
@@ -189,16 +187,11 @@ pub insert_put : (new : Entry) (es : List Entry) → AreRising (rows_of es) → 
 insert_put new [] rising told = refl
 insert_put new (x ∷ es) rising told = elim (cases_lt x.id new.id) [
   | inl below ↦
-      let passes = lt-ltb x.id new.id below in
-      let other : (x.id == new.id) ≡ false = ne_eqb _ _ (λ equal. omega arith) in
       let more : nat_lt new.id x.id ≡ false = le-ltb _ _ (omega arith) in
       let one : 1 + before new.id es ≡ suc (before new.id es) = omega arith in
       let none : place_in new.id es ≡ None = (none_cases new.id x es told).1 in
-      rw (passes, one, other, more) (ap (λ xs. x ∷ xs) (insert_put new es rising.1 none))
+      rw (lt-ltb x.id new.id below, one, ne_eqb _ _ (λ equal. omega arith), more) (ap (λ xs. x ∷ xs) (insert_put new es rising.1 none))
   | inr above ↦
-      let fails = le-ltb x.id new.id above in
       let unlike : x.id ≢ new.id = λ same. absurd (let some = rw (eq-eqb x.id new.id same) at told in cc) in
-      let other : (x.id == new.id) ≡ false = ne_eqb _ _ unlike in
-      let less : nat_lt new.id x.id ≡ true = lt-ltb _ _ (omega arith) in
-      rw (fails, other, less) refl
+      rw (le-ltb x.id new.id above, ne_eqb _ _ unlike, lt-ltb _ _ (omega arith)) refl
 ]

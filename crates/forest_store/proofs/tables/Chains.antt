@@ -29,9 +29,8 @@ module _ (parent : NodeKey → Option NodeKey) where
       not_passed child on free goes =
           elim (either_way (same_key highest child)) [
             | inl e ↦
-                let is : highest ≡ child = same_key-true _ _ e in
                 elim (stops _ _ up) [
-                  | inl blocked ↦ both_ways _ (ap blocks (sym is) ∙ blocked) free
+                  | inl blocked ↦ both_ways _ (ap blocks (sym (same_key-true _ _ e)) ∙ blocked) free
                   | inr ends ↦ cc
                 ]
             | inr e ↦ e
@@ -42,8 +41,7 @@ module _ (parent : NodeKey → Option NodeKey) where
           list_any (same_key highest) (node ∷ line) ≡ true
       has_highest _ Origin line chain = rw (← (one_line origin above line up chain)) (top_on blocks origin above)
       has_highest _ (Up child on r free goes) line chain =
-          let below : list_any (same_key highest) (child ∷ on ∷ line) ≡ true = has_highest child r (on ∷ line) (goes, chain) in
-          rw (not_passed child on free goes) at below
+          rw (not_passed child on free goes) at (has_highest child r (on ∷ line) (goes, chain))
       has_highest _ (Down on child r goes) [] chain = cc
       has_highest _ (Down on child r goes) (p ∷ line) chain = grind (arith, has_highest on r line)
 

@@ -41,5 +41,4 @@ module _ (t : Table Node) where
     pub looked_gone : (key : NodeKey) → ((m : Node) → node_at t key ≡ Some m → m.gone ≡ true) → (keys : List NodeKey) (n : Node) →
         In n (nodes_with t keys) → not (is_of key n) ≡ false → n.gone ≡ true
     looked_gone key goes keys n on out =
-        let same : n.key ≡ key = same_key-true _ _ (not-false _ out) in
-        goes n (ap (node_at t) (sym same) ∙ in_all _ _ (looked_there keys) n on)
+        goes n (ap (node_at t) (sym (same_key-true _ _ (not-false _ out))) ∙ in_all _ _ (looked_there keys) n on)

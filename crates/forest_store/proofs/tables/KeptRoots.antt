@@ -51,8 +51,7 @@ module _ (nodes : List Node) (old : IsRooted nodes) where
     rooted_mapped : (ns : List Node) → ((n : Node) → In n ns → In n nodes) → are_rooted ns ≡ true → are_rooted (map f ns) ≡ true
     rooted_mapped [] within rooted = refl
     rooted_mapped (n ∷ older) within rooted =
-        let rest : are_rooted older ≡ true = and_right _ _ rooted in
-        and_both _ _ (here (and_left _ _ rooted)) (rooted_mapped older (λ m on. within m (inr on)) rest)
+        and_both _ _ (here (and_left _ _ rooted)) (rooted_mapped older (λ m on. within m (inr on)) (and_right _ _ rooted))
       where
         stays : n.gone ≡ false → taken n ≡ false → (o : Option NodeKey) → n.parent ≡ o → option_map_or (is_left_of older) o true ≡ true →
             option_map_or (is_left_of (map f older)) o true ≡ true
@@ -64,8 +63,7 @@ module _ (nodes : List Node) (old : IsRooted nodes) where
                   ∙ ap Some (sym x.is)) e) spared
               | inr e ↦ e
             ] in
-            let still : (f x.node).gone ≡ false = takes.gone x.node ∙ rw (free, x.here) refl in
-            rw (← (takes.key x.node ∙ x.is)) (left_in _ _ (In-map-back f _ _ x.on) still)
+            rw (← (takes.key x.node ∙ x.is)) (left_in _ _ (In-map-back f _ _ x.on) (takes.gone x.node ∙ rw (free, x.here) refl))
 
         here : hangs_on older n ≡ true → hangs_on (map f older) (f n) ≡ true
         here h = rw (takes.gone n, takes.parent n)
@@ -122,9 +120,8 @@ module _ (nodes : List Node) (old : IsRooted nodes) where
       from (q ∷ rest) has =
           let up' : Some q ≡ Some p = sym has.chain.0 ∙ goes in
           let same : q ≡ p = cc in
-          let left : is_left_of nodes p ≡ true = has.left p (inl (sym same)) in
           let below : IsChain parent_among p rest = rw (← same) has.chain.1 in
-          let on : rest ≡ line p = one_line _ p _ _ below (line_of _ _ old.one linked old.rooted p left).chain in
+          let on : rest ≡ line p = one_line _ p _ _ below (line_of _ _ old.one linked old.rooted p (has.left p (inl (sym same)))).chain in
           λ i. same i ∷ on i
 
   -- a child of a node that is the top one or below it lies below the top one
@@ -211,8 +208,7 @@ module _ (nodes : List Node) (old : IsRooted nodes) where
       rooted_left : (ns : List Node) → ((n : Node) → In n ns → In n nodes) → are_rooted ns ≡ true → are_rooted (filter kept ns) ≡ true
       rooted_left [] within rooted = refl
       rooted_left (n ∷ older) within rooted =
-          let rest : are_rooted older ≡ true = and_right _ _ rooted in
-          let on : are_rooted (filter kept older) ≡ true = rooted_left older (λ m on. within m (inr on)) rest in
+          let on : are_rooted (filter kept older) ≡ true = rooted_left older (λ m on. within m (inr on)) (and_right _ _ rooted) in
           elim (either_way (kept n)) [
             | inl e ↦ rw e (and_both _ _ (here (and_left _ _ rooted)) on)
             | inr e ↦ rw e on
@@ -267,8 +263,7 @@ rooted_changed (Change.Birth (Some above) attached client event) key c fit old =
         IsRooted (option_map_or (λ n. record c { nodes = c.nodes ++ new_child attached key event client n ∷ [] }) o c).nodes
     from None is = old
     from (Some n) is =
-        let same : n.key ≡ above = same_key-true _ _ (In-find (is_of above) _ n is).1 in
-        rooted_birth _ old _ fit.0 (ap (is_left_of c.nodes) same ∙ fit.1)
+        rooted_birth _ old _ fit.0 (ap (is_left_of c.nodes) (same_key-true _ _ (In-find (is_of above) _ n is).1) ∙ fit.1)
 rooted_changed (Change.Effect on effect) key c fit old = rooted_effect c.nodes old on effect
 rooted_changed (Change.Loss origin cause) key c fit old = rooted_loss c.nodes old _
 rooted_changed Change.Nothing key c fit old = old

@@ -21,11 +21,9 @@ module _ (t : Table Node) (ss : List CollectionRow) (ok : IsStored t ss) where
       (k : NodeKey) (n : Node) → node_at t k ≡ Some n → n.gone ≡ false → parent_at t k ≡ Some key → ⊥
   childless key goes k n is here up =
       let before = before_is t _ ok _ in
-      let own : n.parent ≡ Some key = sym (ok.linked k n is here) ∙ up in
-      let x = left_node _ _ (left_parent _ before.whole.rooted n _ (in_collection k n is) here own) in
+      let x = left_node _ _ (left_parent _ before.whole.rooted n _ (in_collection k n is) here (sym (ok.linked k n is here) ∙ up)) in
       let on : In x.node (nodes_with t _) = subst (λ (ns : List Node). In x.node ns) before.nodes x.on in
-      let there = ap (node_at t) (sym x.is) ∙ in_all _ _ (looked_there t ok.named _) _ on in
-      both_ways _ (goes x.node there) x.here
+      both_ways _ (goes x.node (ap (node_at t) (sym x.is) ∙ in_all _ _ (looked_there t ok.named _) _ on)) x.here
 
   -- a node of the collection is one of its row's
   pub in_row : (id : ℕ) (s : CollectionRow) → find (λ (x : CollectionRow). x.id == id) ss ≡ Some s → (key : NodeKey) (n : Node) →

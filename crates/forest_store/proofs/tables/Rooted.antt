@@ -1,10 +1,10 @@
 -- The nodes of a collection hang on their parents: a node that is not gone comes after its parent,
 -- which is not gone.
-use Rattle.forest_store.proofs.Common.{◌≡◌, refl, ap, sym, ◌∙◌, subst, true, false, inl, inr, List, [], ◌∷◌, reverse, Option}
-use Rattle.forest_store.proofs.Common.{Some, None, not-true, list_any, option_map_or, NodeKey, same_key, In, In-list_any}
-use Rattle.forest_store.proofs.Common.{and_both, and_left, and_right, either_way, or_right, same_key-refl, same_key-true}
-use Rattle.forest_store.proofs.Common.{In-any, Node, is_left_of, Collection, IsWhole, is_of, are_distinct, are_rooted}
-use Rattle.forest_store.proofs.Common.{In-reverse, In-reverse-back, IsChain, above_among, hangs_on, not_from_false, arith}
+use Rattle.forest_store.proofs.Common.{Collection, In, In-any, In-list_any, In-reverse, In-reverse-back, IsChain, IsWhole, List, Node}
+use Rattle.forest_store.proofs.Common.{NodeKey, None, Option, Some, [], above_among, and_both, and_left, and_right, ap, are_distinct}
+use Rattle.forest_store.proofs.Common.{are_rooted, arith, either_way, false, inl, inr, is_left_of, is_of, list_any, not-true}
+use Rattle.forest_store.proofs.Common.{not_from_false, option_map_or, or_right, refl, reverse, same_key, same_key-refl, same_key-true}
+use Rattle.forest_store.proofs.Common.{subst, sym, true, ◌∙◌, ◌∷◌, ◌≡◌}
 
 -- nodes with one key are one node
 abbrev pub AreOne : List Node → Type 0
@@ -93,16 +93,14 @@ module _ (nodes : List Node) (parent : NodeKey → Option NodeKey) (one : AreOne
       (key : NodeKey) → is_left_of ns key ≡ true → HasLine nodes parent key (above_among ns key)
   line_among [] within rooted key left = cc
   line_among (n ∷ older) within rooted key left =
-      let first : hangs_on older n ≡ true = and_left _ _ rooted in
       let rest : are_rooted older ≡ true = and_right _ _ rooted in
       elim (either_way (same_key n.key key)) [
         | inl e ↦
             let is : n.key ≡ key = same_key-true _ _ e in
             let on : In n nodes = within n (inl refl) in
-            let here : n.gone ≡ false =
-            here_too (n ∷ older) within n on (subst (λ (k : NodeKey). is_left_of (n ∷ older) k ≡ true) (sym is) left) in
+            let here = here_too (n ∷ older) within n on (subst (λ (k : NodeKey). is_left_of (n ∷ older) k ≡ true) (sym is) left) in
             let up : parent key ≡ n.parent = ap parent (sym is) ∙ linked n on here in
-            let stays : option_map_or (is_left_of older) n.parent true ≡ true = rw here at first in
+            let stays : option_map_or (is_left_of older) n.parent true ≡ true = rw here at (and_left _ _ rooted) in
             rw e (from n.parent up stays (λ p there. line_among older (λ m in_older. within m (inr in_older)) rest p there))
         | inr e ↦ rw e (line_among older (λ m in_older. within m (inr in_older)) rest key (rw e at left))
       ]

@@ -186,8 +186,7 @@ SameKeys-shown t now ss after first keys = record {
   limit = keys.limit;
   keys = λ key.
       let zero : now.first ≡ 0 = same_first t now keys ∙ first in
-      let same : slice_index_or now.nexts key.slot 0 ≡ slice_index_or t.nexts key.slot 0 =
-      ap (slice_index_or now.nexts key.slot) (sym zero) ∙ keys.nexts key.slot ∙ ap (slice_index_or t.nexts key.slot) first in
+      let same = ap (slice_index_or now.nexts key.slot) (sym zero) ∙ keys.nexts key.slot ∙ ap (slice_index_or t.nexts key.slot) first in
       ap (nat_lt key.generation) same;
 }
 

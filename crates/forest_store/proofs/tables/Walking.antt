@@ -50,8 +50,7 @@ goes_look t now older key out over k = elim (key_cases key k) [
       rw (ap (λ (x : NodeKey). option_map_or is_unkept (node_at t x) false) (sym same) ∙ over) refl in
       rw gone (either_same (list_any (same_key k) older) None) ∙ sym (left_last t older key k same ∙ own)
   | inr differ ↦
-      let there : node_at now k ≡ node_at t k = out.look k ∙ (rw (same_key-apart key k differ) refl) in
-      rw there (left_before t older key k differ)
+      rw (out.look k ∙ (rw (same_key-apart key k differ) refl)) (left_before t older key k differ)
 ]
 
 -- one node more was looked at, and stays

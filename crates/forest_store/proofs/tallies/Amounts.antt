@@ -76,9 +76,8 @@ amount_differ : (p q : Node → ℕ) (ns : List Node) (m : Node) → are_distinc
 amount_differ p q [] m distinct on same = absurd on
 amount_differ p q (x ∷ xs) m distinct (inl is) same = grind (arith, common_steps, amount_same, In-any, same_key-true, same_key-refl)
 amount_differ p q (x ∷ xs) m distinct (inr on) same =
-    let none : list_any (is_of x.key) xs ≡ false = not-true (list_any (is_of x.key) xs) (and_left _ _ distinct) in
     let other : same_key m.key x.key ≡ false = elim (either_way (same_key m.key x.key)) [
-      | inl e ↦ both_ways _ (In-any _ _ m on e) none
+      | inl e ↦ both_ways _ (In-any _ _ m on e) (not-true (list_any (is_of x.key) xs) (and_left _ _ distinct))
       | inr e ↦ e
     ] in
     let rest = amount_differ p q xs m (and_right _ _ distinct) on (λ n there. same n (inr there)) in
@@ -139,10 +138,9 @@ module _ (t : Table Node) (nodes : List Node) (distinct : are_distinct nodes ≡
           omega (arith, on fewer)
       by on (Some m) is fewer =
           let key : m.key ≡ k = named k m is in
-          let own : same_key m.key k ≡ true = ap (λ (j : NodeKey). same_key j k) key ∙ same_key-refl k in
           let other : list_any (same_key m.key) ks ≡ false = ap (λ (j : NodeKey). list_any (same_key j) ks) key ∙ first_once k _ once in
           let a = amount_differ _ _ _ m distinct (fewer m (inl refl))
           (λ n there differ. skip n (same_key-swap n.key k ∙ (ap (λ (j : NodeKey). same_key j n.key) (sym key) ∙ differ))) in
-          let b : amount_but amount (k ∷ ks) m ≡ 0 = rw own refl in
+          let b : amount_but amount (k ∷ ks) m ≡ 0 = rw (ap (λ (j : NodeKey). same_key j k) key ∙ same_key-refl k) refl in
           let c : amount_but amount ks m ≡ amount m = rw other refl in
           omega (arith, on (λ n there. fewer n (inr there)))

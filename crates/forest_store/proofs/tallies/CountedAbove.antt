@@ -1,16 +1,82 @@
--- How many units hang right below one, as counted in the table and as defined of a collection.
-use Rattle.forest_store.proofs.Common.{◌≡◌, ◌≢◌, ℕ, ◌+◌, ◌<◌, ◌≤◌, refl, ap, sym, ◌∙◌, Bool, true, false, not, ◌&&◌, ◌||◌, ◌⊎◌, inl}
-use Rattle.forest_store.proofs.Common.{inr, if◌then◌else◌, List, [], ◌∷◌, map, reverse, length, Option, Some, None, option_map}
-use Rattle.forest_store.proofs.Common.{arith, lt-ltb, list_any, option_map_or, NodeKey, same_key, times, In, In-list_any}
-use Rattle.forest_store.proofs.Common.{either_way, same_key-refl, same_key-true, some-injective, In-any, Table, node_at, Node, Unit}
-use Rattle.forest_store.proofs.Common.{unit_at, is_of, are_distinct, are_rooted}
-use Rattle.forest_store.proofs.Common.{hangs_in, head_above, heads_below, lowered, uncounted_above}
-use Rattle.forest_store.proofs.Common.{without_below, bit, list_any-map, head_of, counted_above, increment_if, with_below}
+-- Counts of units that a list of nodes changes, each node those in one slot. How many units hang right below one, as counted in the table
+-- and as defined of a collection.
+use Rattle.forest_store.proofs.Common.{Bool, In, In-any, In-list_any, List, Node, NodeKey, None, Option, Some, Table, Unit, [], ap}
+use Rattle.forest_store.proofs.Common.{are_distinct, are_rooted, arith, bit, both_ways, counted_above, either_way, false}
+use Rattle.forest_store.proofs.Common.{get_or-set_other, get_or-set_same, hangs_in, head_above, head_of, heads_below, if◌then◌else◌}
+use Rattle.forest_store.proofs.Common.{increment_if, inl, inr, is_of, length, length-set, list_any, list_any-map, lowered, lt-ltb, map}
+use Rattle.forest_store.proofs.Common.{no_unit, node_at, not, option_map, option_map_or, refl, reverse, same_key, same_key-refl}
+use Rattle.forest_store.proofs.Common.{same_key-true, set, some-injective, sym, times, true, uncounted_above, unit_at, with_below}
+use Rattle.forest_store.proofs.Common.{without_below, ℕ, ◌&&◌, ◌+◌, ◌<◌, ◌||◌, ◌∙◌, ◌∷◌, ◌≡◌, ◌≢◌, ◌≤◌, ◌⊎◌}
 use Rattle.forest_store.proofs.lists.Elements.{times_map}
 use Rattle.forest_store.proofs.tables.Rooted.{distinct_one, left_node, left_parent}
 use Rattle.forest_store.proofs.tables.Writing.{IsSameNode}
-use Rattle.forest_store.proofs.tallies.InTurn.{Changes, in_turn, is_above, other_slots, own_slot, put_at, same_long}
 use Rattle.forest_store.proofs.tallies.Amounts.{bit_few, times_more}
+
+-- the unit has this head
+abbrev pub is_above : NodeKey → Option NodeKey → Bool
+is_above k o = option_map_or (λ h. same_key h k) o false
+
+-- the counts in the slot of the key are as the function makes them, if there is a key
+abbrev pub put_at : Option NodeKey → (Unit → Unit) → List Unit → List Unit
+put_at None g us = us
+put_at (Some k) g us = set us k.slot (g (unit_at us k.slot))
+
+-- setting one element keeps the length
+put_long : (o : Option NodeKey) (g : Unit → Unit) (us : List Unit) → length (put_at o g us) ≡ length us
+put_long None g us = refl
+put_long (Some k) g us = length-set us k.slot _
+
+-- another slot is set
+put_other : (o : Option NodeKey) (g : Unit → Unit) (us : List Unit) (slot : ℕ) → ((h : NodeKey) → o ≡ Some h → h.slot ≢ slot) →
+    unit_at (put_at o g us) slot ≡ unit_at us slot
+put_other None g us slot differ = refl
+put_other (Some h) g us slot differ = get_or-set_other us h.slot slot _ no_unit (λ e. differ h refl (sym e))
+
+-- by whether it is the slot of this key, as no other key of it is set
+put_own : (o : Option NodeKey) (g : Unit → Unit) (us : List Unit) (k : NodeKey) → k.slot < length us →
+    ((h : NodeKey) → o ≡ Some h → h.slot ≡ k.slot → h ≡ k) →
+    unit_at (put_at o g us) k.slot ≡ (if is_above k o then g (unit_at us k.slot) else unit_at us k.slot)
+put_own None g us k within one = refl
+put_own (Some h) g us k within one = elim (either_way (same_key h k)) [
+  | inl e ↦ rw (e, same_key-true h k e) (get_or-set_same us k.slot _ no_unit within)
+  | inr e ↦ rw e (get_or-set_other us h.slot k.slot _ no_unit (λ slots.
+      both_ways (same_key h k) (rw (one h refl (sym slots)) (same_key-refl k)) e))
+]
+
+-- the list changes counts node after node: each changes those in the slot of its key, if it has one
+pub record Changes (all : List Node → List Unit → List Unit) (at : Node → Option NodeKey) (g : Node → Unit → Unit) : Type 0 where
+  pub none : (us : List Unit) → all [] us ≡ us
+  pub next : (n : Node) (ns : List Node) (us : List Unit) → all (n ∷ ns) us ≡ all ns (put_at (at n) (g n) us)
+
+-- the counts of one unit, changed by each node with its key
+abbrev pub in_turn : (Node → Option NodeKey) → (Node → Unit → Unit) → NodeKey → List Node → Unit → Unit
+in_turn at g k [] u = u
+in_turn at g k (n ∷ ns) u = in_turn at g k ns (if is_above k (at n) then g n u else u)
+
+module _ {all : List Node → List Unit → List Unit} {at : Node → Option NodeKey} {g : Node → Unit → Unit} (by : Changes all at g) where
+  -- by induction over the nodes
+  pub same_long : (ns : List Node) (us : List Unit) → length (all ns us) ≡ length us
+  same_long [] us = ap length (by.none us)
+  same_long (n ∷ ns) us = ap length (by.next n ns us) ∙ same_long ns (put_at (at n) (g n) us) ∙ put_long (at n) (g n) us
+
+  -- by induction: none of them has a key of that slot
+  pub other_slots : (ns : List Node) (us : List Unit) (slot : ℕ) → ((n : Node) → In n ns → (h : NodeKey) → at n ≡ Some h → h.slot ≢ slot) →
+      unit_at (all ns us) slot ≡ unit_at us slot
+  other_slots [] us slot differ = ap (λ (l : List Unit). unit_at l slot) (by.none us)
+  other_slots (n ∷ ns) us slot differ = ap (λ (l : List Unit). unit_at l slot) (by.next n ns us)
+      ∙ other_slots ns (put_at (at n) (g n) us) slot (λ m on. differ m (inr on))
+      ∙ put_other (at n) (g n) us slot (differ n (inl refl))
+
+  -- by induction: each node with the key changes them
+  pub own_slot : (ns : List Node) (us : List Unit) (k : NodeKey) → k.slot < length us →
+      ((n : Node) → In n ns → (h : NodeKey) → at n ≡ Some h → h.slot ≡ k.slot → h ≡ k) →
+      unit_at (all ns us) k.slot ≡ in_turn at g k ns (unit_at us k.slot)
+  own_slot [] us k within one = ap (λ (l : List Unit). unit_at l k.slot) (by.none us)
+  own_slot (n ∷ ns) us k within one = ap (λ (l : List Unit). unit_at l k.slot) (by.next n ns us)
+      ∙ own_slot ns (put_at (at n) (g n) us) k (rw (put_long (at n) (g n) us) within) (λ m on. one m (inr on))
+      ∙ ap (in_turn at g k ns) (put_own (at n) (g n) us k within (one n (inl refl)))
+
+-- ---- how many units hang right below one, as counted in the table and as defined of a collection
 
 -- ---- one node
 
@@ -147,8 +213,7 @@ module _ (t : Table Node) (nodes : List Node) (distinct : are_distinct nodes ≡
       by (inr g) (inl a) None up = cc
       by (inr g) (inl a) (Some p) up =
           let x = above_found n on g a p up in
-          let both : Some x.0.head ≡ Some h = sym x.4 ∙ is in
-          (x.0, x.1, x.3, some-injective _ h both)
+          (x.0, x.1, x.3, some-injective _ h (sym x.4 ∙ is))
 
   -- by cases on the node's flags and parent: the table has the parent that the list has
   pub counts_above_is : (k : NodeKey) (n : Node) → In n nodes → counts_above t k n ≡ heads_below nodes k n

@@ -5,7 +5,7 @@ use Rattle.forest_store.proofs.Common.{arith, lt-ltb, NodeKey, same_key, times, 
 use Rattle.forest_store.proofs.Common.{unit_at, waits_in, bit, is_unready, counted_own, and-false, and-true, or-true, increment_if}
 use Rattle.forest_store.specs.Counts.{with_node}
 use Rattle.forest_store.proofs.tallies.Amounts.{bit_few, times_more}
-use Rattle.forest_store.proofs.tallies.InTurn.{Changes, in_turn, is_above, own_slot, put_at}
+use Rattle.forest_store.proofs.tallies.CountedAbove.{Changes, in_turn, is_above, own_slot, put_at}
 
 -- ---- one node
 

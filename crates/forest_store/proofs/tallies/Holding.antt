@@ -1,12 +1,12 @@
 -- Where something holds each unit, no node is deserted; and something does, where none is.
-use Rattle.forest_store.proofs.Common.{not-false, or_none_left, or_none_right, ◌++◌, length-append, list_any-append, ◌≡◌, ℕ, zero}
-use Rattle.forest_store.proofs.Common.{suc, ◌+◌, ◌<◌, ◌≤◌, refl, ap, sym, ◌∙◌, subst, Bool, true, false, not, ◌&&◌, ◌||◌, is_none}
-use Rattle.forest_store.proofs.Common.{inl, inr, List, [], ◌∷◌, length, reverse, Option, Some, None, arith, not-true, list_any}
-use Rattle.forest_store.proofs.Common.{list_all, option_map_or, NodeKey, same_key, In, In-list_any, and_both, and_left, and_right}
-use Rattle.forest_store.proofs.Common.{both_ways, either_way, false_if, or_cases, or_left, or_right, same_key-refl, same_key-true}
-use Rattle.forest_store.proofs.Common.{In-any, all_on, Node, is_left_of, is_of, node_of, is_deserted_node, is_live_node, are_distinct}
-use Rattle.forest_store.proofs.Common.{heads_itself, are_rooted, is_head, In-reverse, In-reverse-back, IsChain, above_among, is_below}
-use Rattle.forest_store.proofs.Common.{lives_below, hangs_on, are_united, shares_unit, length-reverse, is_parent}
+use Rattle.forest_store.proofs.Common.{Bool, In, In-any, In-list_any, In-reverse, In-reverse-back, IsChain, List, Node, NodeKey, None}
+use Rattle.forest_store.proofs.Common.{Option, Some, [], above_among, all_on, and_both, and_left, and_right, ap, are_distinct, are_rooted}
+use Rattle.forest_store.proofs.Common.{are_united, arith, both_ways, either_way, false, false_if, heads_itself, inl, inr, is_below}
+use Rattle.forest_store.proofs.Common.{is_deserted_node, is_head, is_left_of, is_live_node, is_none, is_of, is_parent, length}
+use Rattle.forest_store.proofs.Common.{length-append, length-reverse, list_all, list_any, list_any-append, lives_below, node_of, not}
+use Rattle.forest_store.proofs.Common.{not-false, not-true, option_map_or, or_cases, or_left, or_none_left, or_none_right, or_right, refl}
+use Rattle.forest_store.proofs.Common.{reverse, same_key, same_key-refl, same_key-true, shares_unit, subst, suc, sym, true, zero, ℕ, ◌&&◌}
+use Rattle.forest_store.proofs.Common.{◌++◌, ◌+◌, ◌<◌, ◌||◌, ◌∙◌, ◌∷◌, ◌≡◌, ◌≤◌}
 pub use Rattle.forest_store.specs.Counts.{hangs_in}
 use Rattle.forest_store.proofs.tables.Chains.{one_line}
 use Rattle.forest_store.proofs.tables.Rooted.{AreOne, distinct_one, left_in, left_node, left_parent, line_of}
@@ -31,11 +31,9 @@ shared_among : (ns : List Node) → are_united ns ≡ true → are_rooted ns ≡
     (p : NodeKey) → n.parent ≡ Some p → (q : Node) × In q ns × (q.key ≡ p) × (q.head ≡ n.head)
 shared_among [] united rooted n on here h p up = absurd on
 shared_among (m ∷ older) united rooted n (inl is) here h p up =
-    let first : hangs_on older m ≡ true = and_left _ _ rooted in
-    let here' : m.gone ≡ false = ap (λ (x : Node). x.gone) (sym is) ∙ here in
     let up' : m.parent ≡ Some p = ap (λ (x : Node). x.parent) (sym is) ∙ up in
     let h' : is_head m ≡ false = ap is_head (sym is) ∙ h in
-    let left : is_left_of older p ≡ true = rw (here', up') at first in
+    let left : is_left_of older p ≡ true = rw (ap (λ (x : Node). x.gone) (sym is) ∙ here, up') at (and_left _ _ rooted) in
     let x = left_node _ p left in
     let all : shares_unit m x.node ≡ true = all-In _ _ _ x.on (and_left _ _ united) in
     let above : is_parent m x.node ≡ true = ap (λ (o : Option NodeKey). option_map_or (λ k. same_key x.node.key k) o false) up'
@@ -242,10 +240,8 @@ module _ (nodes : List Node) (distinct : are_distinct nodes ≡ true) (heads : l
             let mid : is_left_of nodes y.0.key ≡ true = rw key left in
             let at : is_below nodes h.key p ≡ true =
             rw (← key) (subst (λ (k : NodeKey). is_below nodes k y.0.key ≡ true) unit (in_unit_below y.0 y.1 (still_here y.0 y.1 mid))) in
-            let under : is_below nodes h.key m.key ≡ true = below_parent h.key m there stays p is at in
             let longer : length (line m.key) ≡ length (p ∷ line p) = ap length (step m there stays p is) in
-            let more : length (line h.key) ≤ length (line p) =
-            no_longer up h.key p (line p) (line h.key) (chain p left) (chain h.key (left_in nodes h on here)) at in
+            let more = no_longer up h.key p (line p) (line h.key) (chain p left) (chain h.key (left_in nodes h on here)) at in
             let z = In-list_any (lives_below nodes m.key) nodes
             (lower m there stays (or_right (is_none m.parent) m.attached attached) (omega arith)) in
             let live : is_live_node z.0 ≡ true = and_left (is_live_node z.0) (is_below nodes m.key z.0.key) z.2 in
@@ -253,15 +249,14 @@ module _ (nodes : List Node) (distinct : are_distinct nodes ≡ true) (heads : l
             In-any (lives_below nodes h.key) nodes z.0 z.1
             (and_both (is_live_node z.0) (is_below nodes h.key z.0.key) live
             (below_through h.key m.key z.0.key (left_in nodes z.0 z.1 zhere) (left_in nodes m there stays)
-            (and_right (is_live_node z.0) (is_below nodes m.key z.0.key) z.2) under))
+            (and_right (is_live_node z.0) (is_below nodes m.key z.0.key) z.2) (below_parent h.key m there stays p is at)))
 
     -- so no node is deserted
     not_deserted : (h : Node) → In h nodes → is_deserted_node nodes h ≡ false
     not_deserted h on = false_if _ (λ e.
         let rest = and_right _ _ e in
-        let here : h.gone ≡ false = not-true h.gone (and_left _ _ rest) in
         let none : list_any (lives_below nodes h.key) nodes ≡ false = not-true _ (and_right _ _ rest) in
-        both_ways _ (lives (suc (length nodes)) h on here (and_left _ _ e) (omega arith)) none)
+        both_ways _ (lives (suc (length nodes)) h on (not-true h.gone (and_left _ _ rest)) (and_left _ _ e) (omega arith)) none)
 
     -- each head that is left has a live node below it
     pub none_deserted : list_any (is_deserted_node nodes) nodes ≡ false
@@ -300,8 +295,7 @@ module _ (nodes : List Node) (distinct : are_distinct nodes ≡ true) (heads : l
             let at : is_below nodes h.key p ≡ true = sym (ap (list_any (same_key h.key)) next) ∙ e in
             let long : length (line y.key) ≡ length (p ∷ line p) = ap length next in
             let same : length (line x.node.key) ≡ length (line p) = ap (λ (k : NodeKey). length (line k)) x.is in
-            let above : unkept x.node.head ≡ true =
-            lower x.node x.on x.here (subst (λ (k : NodeKey). is_below nodes h.key k ≡ true) (sym x.is) at) (omega arith) in
+            let above = lower x.node x.on x.here (subst (λ (k : NodeKey). is_below nodes h.key k ≡ true) (sym x.is) at) (omega arith) in
             elim (either_way (is_head y)) [
               | inl d ↦
                   let attached : y.attached ≡ true = rw is at d in

@@ -160,8 +160,7 @@ hangs_filter p nodes distinct rooted over k n on here = by n.parent refl
         stays : (q : Node) → In q nodes → test q ≡ true → In q (filter p nodes)
         stays q there is =
             let x = left_node _ a (left_parent _ rooted n a on here up) in
-            let one : q ≡ x.node =
-            distinct_one _ distinct q x.node there x.on (same_key-true _ a (and_left _ _ is) ∙ sym x.is) in
+            let one = distinct_one _ distinct q x.node there x.on (same_key-true _ a (and_left _ _ is) ∙ sym x.is) in
             elim (either_way (p q)) [
               | inl e ↦ In-filter-back p _ q there e
               | inr e ↦ both_ways _ (over q there e) (ap (λ (m : Node). m.gone) one ∙ x.here)
@@ -213,10 +212,9 @@ pub units_with : (us : List Unit) (f : Node → Node) → ((n : Node) → IsSame
     AreUnits us (map (with_nodes (map f)) cs)
 units_with us f same gone lives waits cs all = all_mapped _ _ cs (all_weaker _ _ cs (λ c has.
     units_mapped us f c.nodes (λ n. (same n).key) (λ k.
-    let l = times_map (lives_in k) (lives_in k) f c.nodes (lives k) in
     let w = times_map (waits_in k) (waits_in k) f c.nodes (waits k) in
     let b = below_mapped f same c.nodes gone k in
-    λ i. record { live = l i; unready = w i; below = b i }) has) all)
+    λ i. record { live = (times_map (lives_in k) (lives_in k) f c.nodes (lives k)) i; unready = w i; below = b i }) has) all)
 
 -- where a node that is gone is forgotten
 pub units_without : (t : Table Node) (us : List Unit) (key : NodeKey) → ((k : NodeKey) (n : Node) → node_at t k ≡ Some n → n.key ≡ k) →

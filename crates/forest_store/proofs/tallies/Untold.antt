@@ -5,7 +5,7 @@ use Rattle.forest_store.proofs.Common.{same_key, times, In, Table, node_at, Node
 use Rattle.forest_store.proofs.Common.{is_live_node, are_distinct, AllPairs, is_unready, lowered, uncounted_own, without_node, bit}
 use Rattle.forest_store.proofs.tallies.Amounts.{amount_but, amount_same, taken_amount, times_is, times_more}
 use Rattle.forest_store.proofs.tallies.Counting.{counts_own, own_is, own_unit}
-use Rattle.forest_store.proofs.tallies.InTurn.{Changes, in_turn, is_above, other_slots, own_slot, put_at, same_long}
+use Rattle.forest_store.proofs.tallies.CountedAbove.{Changes, in_turn, is_above, other_slots, own_slot, put_at, same_long}
 
 -- ---- one node
 

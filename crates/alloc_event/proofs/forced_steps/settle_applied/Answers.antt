@@ -1,6 +1,6 @@
 -- The effect is made, and what is forced by it, and then the collection is closed.
-use Rattle.alloc_event.proofs.Common.{List, refl, sym, ◌∙◌, arith, total, Change, Entry, nodes_with, rows_of, place_is}
-use Rattle.alloc_event.proofs.Common.{PropagatedFrom, begins_at, may_finish, outcome_there, pool_there, few_there}
+use Rattle.alloc_event.proofs.Common.{Change, Entry, PropagatedFrom, arith, begins_at, few_there, may_finish, nodes_with, outcome_there}
+use Rattle.alloc_event.proofs.Common.{place_is, pool_there, refl, rows_of, sym, total, ◌∙◌}
 use Rattle.forest_store.specs.Nodes.{after_effect}
 use Rattle.forest_steps.proofs.mid_event.Counted.{may_make}
 use Rattle.forest_steps.proofs.mid_event.Stepping.{node_there, own_id}
@@ -30,14 +30,13 @@ played : (c : After-apply_effect) → PropagatedFrom (total c.args.holds.now)
     (rows_of c.args.store.now.entries.items) c.get_mut-entry.result.now c.apply_effect.new.entry
 played c =
     let handles = total c.args.holds.now in
-    let es : List Entry = c.args.store.now.entries.items in
     let e : Entry = c.get_mut-entry.result.now in
     let change : Change = Change.Effect c.args.made.now.key c.args.made.now.effect in
     let may = c.requires.ready in
     let there = node_there may.ready.kept _ _ may.ready.change.named in
     let is = read_through c.args.store.now.entries.items c.args.at c.get_mut-entry.ensures.value c.index_mut.ensures.value in
     let own = own_id handles e may.place is may.ready refl in
-    c.apply_effect.ensures.out (rows_of es) there.0 there.1 there.2 (there.3 ∙ sym own)
+    c.apply_effect.ensures.out (rows_of c.args.store.now.entries.items) there.0 there.1 there.2 (there.3 ∙ sym own)
     (begins_at handles e is may refl) (c.requires.waits e is)
 
 pub finish_event-requires-clause-may : goal.finish_event-requires-clause-may

@@ -15,8 +15,7 @@ settle_applied-requires-clause-worked c =
 pub settle_applied-requires-clause-waits : goal.settle_applied-requires-clause-waits
 settle_applied-requires-clause-waits c =
     let none = c.in_ok-allocate_root.was ∙ ap Ok c.if-branch.false in
-    let same = c.allocate_root.ensures.same none in
-    rw same.0 (c.allocate_root.ensures.waits none)
+    rw (c.allocate_root.ensures.same none).0 (c.allocate_root.ensures.waits none)
 
 pub settle_applied-requires-clause-pool : goal.settle_applied-requires-clause-pool
 settle_applied-requires-clause-pool c =

@@ -22,14 +22,13 @@ played : (c : After-apply_loss) → PropagatedFrom (total c.args.holds.now)
     c.apply_loss.new.entry
 played c =
     let stands = read_through c.args.store.now.entries.items c.args.at c.get_mut-entry.ensures.value c.index_mut.ensures.value in
-    let t = c.args.store.now.nodes.table in
     let es : List Entry = c.args.store.now.entries.items in
     let e : Entry = c.get_mut-entry.result.now in
     let change : Change = Change.Loss c.args.fault.origin c.args.fault.cause in
     let may = c.requires.ready in
     c.apply_loss.ensures.out (rows_of es)
     (begins_at (total c.args.holds.now) e stands may refl)
-    (loss_left t _ may.ready.kept _ _ may.ready.change _
+    (loss_left c.args.store.now.nodes.table _ may.ready.kept _ _ may.ready.change _
     (row_here es _ e may.place stands))
 
 pub finish_event-requires-clause-may : goal.finish_event-requires-clause-may

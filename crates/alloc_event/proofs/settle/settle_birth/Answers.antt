@@ -2,8 +2,7 @@
 use Rattle.alloc_event.proofs.Common.{◌≡◌, ◌∙◌, List, Some, None, refl, sym, Entry, Result, Ok, Err}
 use Rattle.std.proofs.Common.{OnErr}
 use Rattle.forest_store.specs.Insertion.{IsUnborn}
-use Rattle.alloc_event.proofs.mid_event.Births.{born_close, born_closed, child_there, kept_born, pool_born}
-use Rattle.alloc_event.proofs.mid_event.MoreSlots.{forest_longer}
+use Rattle.alloc_event.proofs.mid_event.Births.{born_close, born_closed, child_there, forest_longer, kept_born, pool_born}
 use Rattle.alloc_event.proofs.settle.settle_birth.Goals as goal
 
 -- what holds where a fault is answered

@@ -40,6 +40,5 @@ settle_without_strong-requires-clause-place c = sym (rw c.deref.ensures.value at
 pub settle_without_strong-requires-clause-strong : goal.settle_without_strong-requires-clause-strong
 settle_without_strong-requires-clause-strong c e is =
     let stands = read_through c.args.store.now.entries.items c.in-Some.at c.get-entry.ensures c.index.ensures in
-    let told = sym (rw c.deref.ensures.value at c.place_of.ensures) ∙ c.in-Some.is in
-    let same = one_entry _ _ _ e told stands is in
+    let same = one_entry _ _ _ e (sym (rw c.deref.ensures.value at c.place_of.ensures) ∙ c.in-Some.is) stands is in
     omega (arith, c.if-entry-gt0.false, ap (λ (x : Entry). x.strong) same)

@@ -41,9 +41,8 @@ pub returns : goal.returns
 returns c =
     let outcome = c.drop_without_strong.ensures.outcome in
     let same = outcome.unchanged c.if-drop_without_strong.false in
-    let pool = outcome.same_pool c.if-drop_without_strong.false in
     record {
-      outcome = rw same.entries at (rw pool at
+      outcome = rw same.entries at (rw (outcome.same_pool c.if-drop_without_strong.false) at
           (c.settle_nothing.ensures.outcome c.args.buffer.collection (rw same.entries c.requires.place)));
       units = c.settle_nothing.ensures.units;
     }

@@ -1,9 +1,7 @@
-use Rattle.std.proofs.Common.{ℕ, ◌≡◌, ◌+◌, ◌-◌, ◌/◌, ◌^◌, ◌≤◌, ◌<◌, ◌&&◌, ◌==◌, ◌∙◌, ap, arith, Bool, true, false, refl, sym, subst, get_or, if◌then◌else◌, nat_lt, not, ⊎_elim}
-use Rattle.std.proofs.lemmas.Bool.{cases_lt, false≢true, le-ltb, lt-ltb}
+use Rattle.buffer_holds.proofs.Common.{Bool, ap, arith, bit_at, bit_at-trailing_zeros, bit_at_lowest, cases_lt, false, false≢true, get_or}
+use Rattle.buffer_holds.proofs.Common.{is_in, le-ltb, lt-ltb, nat_lt, not, refl, subst, sym, trailing_zeros, true, w64, ℕ, ⊎_elim, ◌&&◌}
+use Rattle.buffer_holds.proofs.Common.{◌+◌, ◌-◌, ◌/◌, ◌<◌, ◌==◌, ◌^◌, ◌∙◌, ◌≡◌, ◌≤◌}
 use Rattle.std.proofs.lemmas.Nat.{shr_le}
-use Rattle.std.proofs.lemmas.Nat.Bits.{bit_at_lowest, bit_at-trailing_zeros}
-use Rattle.std.specs.Int.{bit_at, trailing_ones, trailing_zeros, w64}
-use Rattle.buffer_holds.specs.Pages.{in_run, is_in, IsIn}
 use Rattle.buffer_holds.proofs.Runs.{done, done_more, done_none, ends_within, in_all, in_none, low_ones, none_left, one_if, rest_after}
 use Rattle.buffer_holds.proofs.page.raise_counts.Goals.{After-trailing_ones-ones}
 use Rattle.buffer_holds.proofs.page.raise_counts.Goals as goal

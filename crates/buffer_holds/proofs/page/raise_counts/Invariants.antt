@@ -1,5 +1,4 @@
-use Rattle.std.proofs.Common.{ℕ, ◌≡◌, ◌+◌, ◌-◌, ◌/◌, ◌^◌, ◌≤◌, ◌<◌, get_or, length}
-use Rattle.buffer_holds.specs.Pages.{IsIn}
+use Rattle.buffer_holds.proofs.Common.{IsIn, get_or, length, ℕ, ◌+◌, ◌-◌, ◌/◌, ◌<◌, ◌^◌, ◌≡◌, ◌≤◌}
 use Rattle.buffer_holds.proofs.Runs.{done}
 use Rattle.buffer_holds.proofs.page.raise_counts.Given as goal
 

@@ -1,6 +1,5 @@
-use Rattle.std.proofs.Common.{ℕ, ◌≡◌, ◌≢◌, ◌+◌, ◌≤◌, ◌<◌, ◌&&◌, ◌∙◌, ap, arith, Bool, true, false, refl, sym, get_or, length, nat_lt, not, set, ⊎_elim}
-use Rattle.std.proofs.lemmas.Bool.{cases_eq}
-use Rattle.std.proofs.lemmas.List.{get_or-set_same, get_or-set_other}
+use Rattle.buffer_holds.proofs.Common.{Bool, ap, arith, cases_eq, false, get_or, get_or-set_other, get_or-set_same, length, nat_lt, not}
+use Rattle.buffer_holds.proofs.Common.{set, true, ℕ, ⊎_elim, ◌&&◌, ◌+◌, ◌<◌, ◌∙◌, ◌≡◌, ◌≢◌}
 use Rattle.buffer_holds.proofs.Masks.{set_length}
 use Rattle.buffer_holds.proofs.Runs.{one_if, run_next}
 use Rattle.buffer_holds.proofs.page.raise_run.Goals as goal

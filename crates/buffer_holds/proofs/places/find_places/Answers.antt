@@ -1,6 +1,5 @@
-use Rattle.std.proofs.Common.{◌≡◌, ◌+◌, ◌≤◌, ◌∙◌, ap, arith, is_some, refl, subst, sym, IsSome, None, Some}
-use Rattle.std.proofs.lemmas.Bool.{false≢true}
-use Rattle.buffer_holds.proofs.Moves.{alike_itself, made}
+use Rattle.std.proofs.Common.{arith}
+use Rattle.buffer_holds.proofs.Moves.{made}
 use Rattle.buffer_holds.proofs.Outcomes.{at_none}
 use Rattle.buffer_holds.proofs.Sound.{few_clients, no-sum-no-page}
 use Rattle.buffer_holds.proofs.places.find_places.Goals as goal

@@ -1,7 +1,4 @@
-use Rattle.std.proofs.Common.{◌≡◌, ◌<◌, ap, arith, is_some, refl, Some}
-use Rattle.std.specs.Map.{lookup}
-use Rattle.buffer_holds.specs.Pages.{same_owner}
-use Rattle.buffer_holds.specs.Sums.{one_page}
+use Rattle.buffer_holds.proofs.Common.{Some, ap, arith, is_some, lookup, one_page, same_owner, ◌≡◌}
 use Rattle.buffer_holds.proofs.Moves.{alike_itself, gone}
 use Rattle.buffer_holds.proofs.Sound.{page-le-clients}
 use Rattle.buffer_holds.proofs.Written.{page_found}

@@ -1,6 +1,4 @@
-use Rattle.std.proofs.Common.{◌≡◌, Some, IsOk, arith}
-use Rattle.std.specs.HashMap.{Updates}
-use Rattle.indexmap.specs.IndexMap.{insert_entry}
+use Rattle.buffer_holds.proofs.Common.{IsOk, Some, Updates, arith, insert_entry, ◌≡◌}
 use Rattle.buffer_holds.specs.contracts.names.OwnerPartialEq.TheImpl.{eq-value as derived}
 use Rattle.buffer_holds.proofs.Outcomes.{at_ok}
 use Rattle.buffer_holds.proofs.Written.{page_added, page_last}

@@ -1,5 +1,4 @@
-use Rattle.std.proofs.Common.{ℕ, ◌≡◌, ◌==◌, ◌∙◌, ap, sym, if◌then◌else◌}
-use Rattle.buffer_holds.specs.Pages.{cell_at, tidied}
+use Rattle.buffer_holds.proofs.Common.{ap, cell_at, if◌then◌else◌, sym, tidied, ◌==◌, ◌∙◌}
 use Rattle.buffer_holds.proofs.RowLemmas.{IsSome-lent_at}
 use Rattle.buffer_holds.proofs.Written.{page_lent, page_written, set_stands, stood}
 use Rattle.buffer_holds.proofs.rows.clear.Goals as goal

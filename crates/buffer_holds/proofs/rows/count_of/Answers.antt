@@ -1,6 +1,5 @@
-use Rattle.std.proofs.Common.{◌∙◌, ap, sym}
+use Rattle.buffer_holds.proofs.Common.{ap, count_in, page_of, same_owner, sym, ◌∙◌}
 use Rattle.buffer_holds.specs.contracts.names.OwnerPartialEq.TheImpl.{eq-value as derived}
-use Rattle.buffer_holds.specs.Pages.{count_in, page_of, same_owner}
 use Rattle.buffer_holds.proofs.PageNames.{derived_owner}
 use Rattle.buffer_holds.proofs.RowLemmas.{lookup_found, lookup_read_at}
 use Rattle.buffer_holds.proofs.rows.count_of.Goals as goal

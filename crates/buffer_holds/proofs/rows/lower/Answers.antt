@@ -1,6 +1,5 @@
-use Rattle.std.proofs.Common.{ℕ, ◌≡◌, ◌-◌, ◌<◌, ◌==◌, ◌↔◌, ◌∙◌, ap, subst, sym, arith, if◌then◌else◌, IsTrue, Some, refl}
-use Rattle.buffer_holds.specs.Pages.{cell_at, count_in, page_of}
-use Rattle.buffer_holds.specs.Sums.{page_in}
+use Rattle.buffer_holds.proofs.Common.{Some, ap, arith, cell_at, count_in, if◌then◌else◌, page_in, page_of, refl, sym, ◌-◌, ◌==◌, ◌∙◌}
+use Rattle.buffer_holds.proofs.Common.{◌≡◌}
 use Rattle.buffer_holds.proofs.RowLemmas.{IsSome-lent_at, set_value_at-same}
 use Rattle.buffer_holds.proofs.Written.{page_lent, page_written, stood}
 use Rattle.buffer_holds.proofs.rows.lower.Goals.{After-get-count}

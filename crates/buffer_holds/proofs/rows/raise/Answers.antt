@@ -1,6 +1,4 @@
-use Rattle.std.proofs.Common.{◌+◌, ◌<◌, ◌^◌, ◌∙◌, ap, subst, sym}
-use Rattle.buffer_holds.specs.Pages.{count_in, raised}
-use Rattle.buffer_holds.specs.Sums.{page_in}
+use Rattle.buffer_holds.proofs.Common.{ap, count_in, page_in, raised, subst, sym, ◌+◌, ◌<◌, ◌^◌, ◌∙◌}
 use Rattle.buffer_holds.proofs.RowLemmas.{IsSome-lent_at}
 use Rattle.buffer_holds.proofs.Written.{page_lent, page_written}
 use Rattle.buffer_holds.proofs.rows.raise.Goals as goal

@@ -1,5 +1,4 @@
-use Rattle.std.proofs.Common.{◌≡◌, ◌-◌, ◌∙◌, [], IsSome, ap, refl, subst, sym, arith, unwrap_or}
-use Rattle.buffer_holds.specs.Pages.{IsBlank}
+use Rattle.buffer_holds.proofs.Common.{IsBlank, IsSome, [], ap, arith, refl, subst, sym, unwrap_or, ◌-◌, ◌∙◌}
 use Rattle.buffer_holds.proofs.spares.take_spare.Goals as goal
 
 -- all are blank

@@ -1,8 +1,5 @@
-use Rattle.std.proofs.Common.{◌≡◌, Some, IsOk, ap, arith, refl, unwrap_or}
-use Rattle.std.specs.HashMap.{Updates}
-use Rattle.indexmap.specs.IndexMap.{insert_entry}
+use Rattle.buffer_holds.proofs.Common.{IsOk, Some, Sum, Updates, ap, arith, insert_entry, refl, unwrap_or, ◌≡◌}
 use Rattle.buffer_holds.specs.contracts.names.PartPartialEq.TheImpl.{eq-value as derived}
-use Rattle.buffer_holds.specs.declared.sums.Sum.{Sum}
 use Rattle.buffer_holds.proofs.Outcomes.{at_ok}
 use Rattle.buffer_holds.proofs.Written.{sum_added, sum_last}
 use Rattle.buffer_holds.proofs.sums.add_sum.Goals as goal

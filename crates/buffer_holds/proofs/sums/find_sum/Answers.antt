@@ -1,5 +1,4 @@
-use Rattle.std.proofs.Common.{◌≡◌, sym, subst, ap, ◌∙◌, true, Some}
-use Rattle.std.proofs.lemmas.Map.Made.{lookup_key_passes}
+use Rattle.buffer_holds.proofs.Common.{Some, ap, lookup_key_passes, subst, sym, true, ◌∙◌, ◌≡◌}
 use Rattle.buffer_holds.proofs.PageNames.{derived_part, same_part-one}
 use Rattle.buffer_holds.proofs.sums.find_sum.Goals as goal
 

@@ -1,7 +1,4 @@
-use Rattle.std.proofs.Common.{◌≡◌, ◌+◌, ◌-◌, ◌<◌, ◌∙◌, ap, arith, refl, sym, unwrap_or}
-use Rattle.buffer_holds.specs.declared.sums.Sum.{Sum}
-use Rattle.buffer_holds.specs.Pages.{count_in}
-use Rattle.buffer_holds.specs.Sums.{sum_in, sum_of}
+use Rattle.buffer_holds.proofs.Common.{Sum, ap, arith, count_in, refl, sum_in, sum_of, sym, unwrap_or, ◌-◌, ◌∙◌, ◌≡◌}
 use Rattle.buffer_holds.proofs.Moves.{sum_told_as}
 use Rattle.buffer_holds.proofs.RowLemmas.{IsSome-lent_at}
 use Rattle.buffer_holds.proofs.Written.{sum_found, sum_lent, sum_written}

@@ -1,10 +1,6 @@
-use Rattle.std.proofs.Common.{ℕ, ◌≡◌, ◌==◌, ◌+◌, ◌-◌, ◌<◌, ◌^◌, ◌∙◌, ap, arith, refl, subst, sym, if◌then◌else◌, unwrap_or}
-use Rattle.buffer_holds.specs.declared.sums.Sum.{Sum}
-use Rattle.buffer_holds.specs.Pages.{count_in, is_in}
-use Rattle.buffer_holds.specs.Sums.{sum_in}
+use Rattle.buffer_holds.proofs.Common.{Bool, List, Option, Some, Sum, ap, arith, cell_at, count_in, false, if◌then◌else◌, refl, sum_in}
+use Rattle.buffer_holds.proofs.Common.{sym, true, unwrap_or, ℕ, ◌+◌, ◌-◌, ◌==◌, ◌∙◌, ◌≡◌}
 use Rattle.buffer_holds.proofs.RowLemmas.{IsSome-lent_at}
-use Rattle.std.proofs.Common.{Bool, true, false, List, Option, Some}
-use Rattle.buffer_holds.specs.Pages.{cell_at}
 use Rattle.buffer_holds.proofs.Runs.{one_is, raised_one}
 use Rattle.buffer_holds.proofs.Written.{sum_lent, sum_written}
 use Rattle.buffer_holds.proofs.sums.lift.Goals.{After-unwrap-sum}

@@ -1,7 +1,5 @@
-use Rattle.std.proofs.Common.{◌∙◌, ap, sym}
+use Rattle.buffer_holds.proofs.Common.{ap, count_in, same_part, sum_of, sym, ◌∙◌}
 use Rattle.buffer_holds.specs.contracts.names.PartPartialEq.TheImpl.{eq-value as derived}
-use Rattle.buffer_holds.specs.Pages.{count_in, same_part}
-use Rattle.buffer_holds.specs.Sums.{sum_of}
 use Rattle.buffer_holds.proofs.PageNames.{derived_part}
 use Rattle.buffer_holds.proofs.RowLemmas.{lookup_found, lookup_read_at}
 use Rattle.buffer_holds.proofs.sums.moving_of.Goals as goal

@@ -1,7 +1,4 @@
-use Rattle.std.proofs.Common.{ℕ, ◌≡◌, ◌==◌, ◌+◌, ◌-◌, ◌<◌, ◌^◌, ◌∙◌, ap, arith, refl, subst, sym, if◌then◌else◌, unwrap_or}
-use Rattle.buffer_holds.specs.declared.sums.Sum.{Sum}
-use Rattle.buffer_holds.specs.Pages.{count_in, is_in}
-use Rattle.buffer_holds.specs.Sums.{sum_in}
+use Rattle.buffer_holds.proofs.Common.{Sum, ap, arith, count_in, is_in, subst, sum_in, sym, unwrap_or, ◌+◌, ◌-◌, ◌<◌, ◌^◌, ◌∙◌, ◌≡◌}
 use Rattle.buffer_holds.proofs.RowLemmas.{IsSome-lent_at}
 use Rattle.buffer_holds.proofs.Runs.{one_if, raised_count}
 use Rattle.buffer_holds.proofs.Written.{sum_lent, sum_written}

@@ -1,7 +1,4 @@
-use Rattle.std.proofs.Common.{◌≡◌, ◌∙◌, Option, Some, ap, subst, sym, unwrap_or}
-use Rattle.buffer_holds.specs.declared.names.Part.{Part}
-use Rattle.buffer_holds.specs.declared.sums.Sum.{Sum}
-use Rattle.buffer_holds.specs.Pages.{IsBlank}
+use Rattle.buffer_holds.proofs.Common.{IsBlank, Option, Part, Sum, ap, subst, sym, unwrap_or, ◌∙◌}
 use Rattle.buffer_holds.proofs.Written.{sum_taken}
 use Rattle.buffer_holds.proofs.sums.take_sum.Goals as goal
 

@@ -13,8 +13,7 @@ loop-at-preserved c =
     ≡ h.pages / c.args.pages_each + rooms c.args.pages_each (drop (c.loop-at.at + 1) hs) =
     ap (rooms c.args.pages_each) (drop_more hs c.loop-at.at (record { start = 0; pages = 0 }) c.loop-at-test.true)
     ∙ rooms-cons c.args.pages_each h (drop (c.loop-at.at + 1) hs) in
-    let so : c.loop-at.left - rooms c.args.pages_each (drop c.loop-at.at hs) ≡ c.args.count - rooms c.args.pages_each hs =
-    c.loop-at.invariant in
+    let so = c.loop-at.invariant in
     let all : c.if-holes-at.left - rooms c.args.pages_each (drop (c.loop-at.at + 1) hs) ≡ c.args.count - rooms c.args.pages_each hs =
     elim c.if-holes-at.branch [
       | then-holes-at+else-left-eq0 w ↦ omega (arith, cell, so, w.left-is, w.saturating_sub-left.ensures)

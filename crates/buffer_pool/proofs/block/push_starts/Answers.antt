@@ -1,7 +1,7 @@
 -- The first of those still to come is pushed.
 use Rattle.buffer_pool.proofs.Common.{[], ap, arith, length, run_starts, ◌++◌, ◌+◌, ◌-◌, ◌∙◌, ◌∷◌}
 use Rattle.std.proofs.lemmas.List.{length-append}
-use Rattle.buffer_pool.proofs.HeldRuns.{one_more, starts_pushed}
+use Rattle.buffer_pool.proofs.Taking.{one_more, starts_pushed}
 use Rattle.buffer_pool.proofs.block.push_starts.Goals as goal
 
 pub loop-left-preserved : goal.loop-left-preserved

@@ -1,6 +1,6 @@
 -- The block lies between the two ends of the search.
 use Rattle.buffer_pool.proofs.Common.{end_of, ◌-◌}
-use Rattle.buffer_pool.proofs.Finding.{IsBlockSearch}
+use Rattle.buffer_pool.proofs.Joins.{IsBlockSearch}
 use Rattle.buffer_pool.proofs.blocks.block_of.Given as goal
 
 abbrev pub invariant-loop-low : goal.invariant-loop-low

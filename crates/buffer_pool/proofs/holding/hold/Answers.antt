@@ -1,10 +1,10 @@
 -- Each lies where first fit puts it, so nothing begins there.
-use Rattle.buffer_pool.proofs.Common.{AreFirstFits, Interval, ap, arith, drop, drop_more, get_or, held_from, length, set, subst, sym}
-use Rattle.buffer_pool.proofs.Common.{with_buffers, with_interval, ℕ, ◌+◌, ◌<◌, ◌∙◌, ◌∷◌, ◌≡◌}
+use Rattle.buffer_pool.proofs.Common.{Interval, ap, arith, drop, drop_more, get_or, held_from, length, set, sym, with_buffers}
+use Rattle.buffer_pool.proofs.Common.{with_interval, ℕ, ◌+◌, ◌<◌, ◌∙◌, ◌∷◌, ◌≡◌}
 use Rattle.std.proofs.Common.{List}
 use Rattle.std.proofs.lemmas.List.{length-set}
-use Rattle.buffer_pool.proofs.Keeping.{held_next}
-use Rattle.buffer_pool.proofs.Lengths.{held-free, held-set}
+use Rattle.buffer_pool.proofs.Runs.{held_next}
+use Rattle.buffer_pool.proofs.Filling.{held-free, held-set}
 use Rattle.buffer_pool.proofs.holding.hold.Goals as goal
 
 pub index_mut-requires : goal.index_mut-requires
@@ -27,8 +27,7 @@ loop-start-preserved c =
     let new : Interval = record { start = s; pages = c.args.pages } in
     let within : s < length ns = omega (arith, n.inside, c.loop-start.invariant.size, c.requires.some) in
     let here : s ≡ 0 + s = omega arith in
-    let free : get_or ns s 0 ≡ 0 =
-    held-free (length c.args.lengths.now.items) 0 s new ns n.free c.requires.some here within in
+    let free = held-free (length c.args.lengths.now.items) 0 s new ns n.free c.requires.some here within in
     let one : held_from 0 (set ns s c.args.pages) ≡ with_interval new (held_from 0 ns) =
     held-set 0 s c.args.pages ns within c.requires.some free
     ∙ ap (λ at. with_interval (record { start = at; pages = c.args.pages }) (held_from 0 ns)) (sym here) in

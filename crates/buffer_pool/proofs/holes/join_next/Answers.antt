@@ -2,9 +2,8 @@
 use Rattle.buffer_pool.proofs.Common.{HasIntervalAt, Interval, MAX_PAGES, [], all_in, ap, arith, drop, end_of, first_begins, get_or, refl}
 use Rattle.buffer_pool.proofs.Common.{remove, rules, set, spot_index, subst, sym, take, take-take, true, ◌+◌, ◌<◌, ◌^◌, ◌∙◌, ◌≡◌, ◌≤◌}
 use Rattle.std.proofs.Common.{List, length-set}
-use Rattle.buffer_pool.proofs.Joins.{place-within, within-all, same-place, remove-next}
-use Rattle.buffer_pool.proofs.Spaces.{join_apart, join_touching, first_within}
-use Rattle.buffer_pool.proofs.Touching.{there_if, begins_there, holds_there, still_there}
+use Rattle.buffer_pool.proofs.Joins.{place-within, remove-next, same-place, within-all}
+use Rattle.buffer_pool.proofs.Spaces.{begins_there, first_within, holds_there, join_apart, join_touching, still_there, there_if}
 use Rattle.buffer_pool.proofs.holes.join_next.Goals.{After-settle-next}
 use Rattle.buffer_pool.proofs.holes.join_next.Goals as goal
 
@@ -26,8 +25,7 @@ returns-then-begins_at c =
     let test = rw (c.end.ensures, next m) at c.begins_at.ensures in
     let begins : first_begins (end_of c.args.hole) (drop (spot_index L c.args.spot + 1) hs) ≡ true = sym test ∙ c.if-begins_at.true in
     let lt = first_within (first_begins (end_of c.args.hole)) (spot_index L c.args.spot + 1) hs refl begins in
-    let is : c.get-more.result ≡ get_or hs (spot_index L c.args.spot + 1) c.get-more.result =
-    c.get-more.ensures ∙ ap (λ n. get_or hs n c.get-more.result) (next m) in
+    let is = c.get-more.ensures ∙ ap (λ n. get_or hs n c.get-more.result) (next m) in
     let whole : Interval = record { start = c.args.hole.start; pages = c.args.hole.pages + c.get-more.result.pages } in
     let B : List Interval = get_or L c.args.spot.block [] in
     let place : spot_index c.set.new.self.lists c.settle-next.result ≡ spot_index L c.args.spot + 1 =

@@ -1,5 +1,5 @@
 -- What is passed for fewer pages is passed for more.
-use Rattle.buffer_pool.proofs.Passing.{passed-more, passed-start}
+use Rattle.buffer_pool.proofs.Filling.{passed-more, passed-start}
 use Rattle.buffer_pool.proofs.holes.seek.Goals as goal
 use Rattle.buffer_pool.proofs.holes.seek.Goals.{then-known-pages_each, else-known-pages_each}
 

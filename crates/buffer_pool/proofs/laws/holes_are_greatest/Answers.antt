@@ -1,5 +1,5 @@
 -- A free interval lies in a hole of the list, and each of those is free.
-use Rattle.buffer_pool.proofs.Greatest.{hole_from, hole_in}
+use Rattle.buffer_pool.proofs.Least.{hole_from, hole_in}
 use Rattle.buffer_pool.proofs.laws.holes_are_greatest.Goals as goal
 
 pub returns : goal.returns

@@ -1,4 +1,4 @@
-use Rattle.core_state.proofs.Common.{Client, ap, length, refl, sym, ◌∙◌}
+use Rattle.core_state.proofs.Common.{refl, sym, ◌∙◌}
 use Rattle.core_state.proofs.joined.Rows.{finds, finds_none}
 use Rattle.core_state.proofs.clients.count_waiting.Goals as goal
 

@@ -1,4 +1,4 @@
-use Rattle.core_state.proofs.Common.{Client, ap, sym, ◌∙◌}
+use Rattle.core_state.proofs.Common.{sym, ◌∙◌}
 use Rattle.core_state.proofs.joined.Rows.{finds, finds_none}
 use Rattle.core_state.proofs.clients.first_waiting.Goals as goal
 

@@ -1,4 +1,4 @@
-use Rattle.core_state.proofs.joined.NextRows.{not_joined, not_shut, not_given, not_handed, not_collected, not_theirs, by_join}
+use Rattle.core_state.proofs.joined.Rows.{by_join, not_collected, not_given, not_handed, not_joined, not_shut, not_theirs}
 use Rattle.core_state.proofs.clients.note_client.Goals as goal
 
 pub returns-in-Joined-clause-ok : goal.returns-in-Joined-clause-ok

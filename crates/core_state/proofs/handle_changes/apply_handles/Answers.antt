@@ -1,8 +1,8 @@
 use Rattle.core_state.proofs.Common.{Call, Called, Reply, of, on_ok_weaker, refl, rules, subst, sym, total, ◌-◌, ◌<◌, ◌^◌}
 use Rattle.std.proofs.lemmas.Bool.{OnTrue_at}
 use Rattle.buffer_holds.specs.Counts.{Counts}
-use Rattle.core_state.proofs.handles.Places.{moves_reserved, places_closed, places_given, places_landed}
-use Rattle.core_state.proofs.handles.Undoing.{moves_taken, moves_dropped, moves_given, moves_collected}
+use Rattle.core_state.proofs.handles.Moves.{moves_collected, moves_dropped, moves_given, moves_reserved, moves_taken, places_closed}
+use Rattle.core_state.proofs.handles.Moves.{places_given, places_landed}
 use Rattle.core_state.proofs.handles.Untouched.{take_stays, dup_stays, drop_stays, give_stays, collect_stays, other_stays}
 use Rattle.core_state.proofs.handle_changes.apply_handles.Goals as goal
 

@@ -1,6 +1,5 @@
 use Rattle.core_state.proofs.Common.{of, rules, total, ◌-◌}
-use Rattle.core_state.proofs.handles.Opening.{closes_one}
-use Rattle.core_state.proofs.handles.Places.{places_closed, places_tidied}
+use Rattle.core_state.proofs.handles.Moves.{closes_one, places_closed, places_tidied}
 use Rattle.core_state.proofs.handle_changes.close.Goals as goal
 
 pub returns-clause-closed : goal.returns-clause-closed

@@ -1,5 +1,5 @@
 use Rattle.core_state.proofs.Common.{bit_at, eqb-true, sym, ◌∙◌}
-use Rattle.core_state.proofs.handles.Opening.{opens_less}
+use Rattle.core_state.proofs.handles.Moves.{opens_less}
 use Rattle.core_state.proofs.handle_changes.close_at.Goals as goal
 
 pub returns-then-has_buffer-clause-counts : goal.returns-then-has_buffer-clause-counts

@@ -1,5 +1,5 @@
 use Rattle.core_state.proofs.Common.{Opens, arith, is_in_set_below, subst, ◌≡◌}
-use Rattle.core_state.proofs.handles.Opening.{all_closed}
+use Rattle.core_state.proofs.handles.Moves.{all_closed}
 use Rattle.core_state.proofs.handle_changes.close_below.Goals as goal
 
 -- none is left below 0

@@ -1,6 +1,5 @@
 use Rattle.std.proofs.Common.{◌∙◌}
-use Rattle.core_state.proofs.handles.Opening.{opens_set}
-use Rattle.core_state.proofs.handles.Places.{places_set}
+use Rattle.core_state.proofs.handles.Moves.{opens_set, places_set}
 use Rattle.core_state.proofs.handle_changes.open_all.Goals as goal
 
 pub returns-in-Ok-clause-ok : goal.returns-in-Ok-clause-ok

@@ -1,5 +1,4 @@
-use Rattle.core_state.proofs.handles.Opening.{opens_one}
-use Rattle.core_state.proofs.handles.Places.{places_beside}
+use Rattle.core_state.proofs.handles.Moves.{opens_one, places_beside}
 use Rattle.core_state.proofs.handle_changes.open_one.Goals as goal
 
 pub returns-in-Ok-clause-ok : goal.returns-in-Ok-clause-ok

@@ -1,8 +1,6 @@
 use Rattle.core_state.proofs.Common.{Called, is_the, of, refl, rules, total, ◌+◌, ◌<◌, ◌^◌}
-use Rattle.core_state.proofs.handles.Opening.{same_before, has_one}
-use Rattle.core_state.proofs.handles.Places.{places_landed, places_opened}
-use Rattle.core_state.proofs.handles.Undoing.{taken_opens, doubled_opens, undrops, ungives, opened, moved_none, not_taken, not_doubled}
-use Rattle.core_state.proofs.handles.Undoing.{not_dropped, not_handed, not_handles}
+use Rattle.core_state.proofs.handles.Moves.{doubled_opens, has_one, moved_none, not_doubled, not_dropped, not_handed, not_handles}
+use Rattle.core_state.proofs.handles.Moves.{not_taken, opened, places_landed, places_opened, same_before, taken_opens, undrops, ungives}
 use Rattle.core_state.proofs.handle_changes.undo_handles.Goals as goal
 
 pub returns-in-Taken-clause-counts : goal.returns-in-Taken-clause-counts

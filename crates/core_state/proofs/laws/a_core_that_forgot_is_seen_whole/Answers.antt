@@ -1,9 +1,8 @@
 use Rattle.core_state.proofs.Common.{Collection, Fired, List, [], ap, drop, legal_grows, length, recalling, refl, sym, timeline, ◌++◌}
 use Rattle.core_state.proofs.Common.{◌∙◌, ◌∷◌, ◌≡◌}
 use Rattle.std.specs.Option.{option_map}
-use Rattle.core_state.proofs.views.Live.{fault_is}
+use Rattle.core_state.proofs.views.Shown.{collection_shown, events_shown, fault_is, free_shown, live_keys_shown}
 use Rattle.core_state.proofs.views.Readings.{readings_are}
-use Rattle.core_state.proofs.views.Shown.{collection_shown, events_shown, free_shown, live_keys_shown}
 use Rattle.core_state.proofs.laws.a_core_that_forgot_is_seen_whole.Goals as goal
 
 -- without the first of them the rest is left

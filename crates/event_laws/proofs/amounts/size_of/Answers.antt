@@ -23,8 +23,7 @@ loop-index-preserved c =
 pub returns-else-set-index-ne0 : goal.returns-else-set-index-ne0
 unfolding indices_in
 returns-else-set-index-ne0 c =
-    let most = c.loop-index.invariant.0 in
-    let all : c.loop-index.index + (SET_BITS - c.loop-index.index) ≡ SET_BITS = omega (arith, most) in
+    let all : c.loop-index.index + (SET_BITS - c.loop-index.index) ≡ SET_BITS = omega (arith, c.loop-index.invariant.0) in
     c.loop-index.invariant.1 ∙ below_rest (SET_BITS - c.loop-index.index) c.loop-index.index c.args.set c.if-set-index-ne0.false
     ∙ ap (λ n. length (indices_below n c.args.set)) all
 

@@ -1,5 +1,5 @@
 use Rattle.event_laws.proofs.Common.{legal_grows, timeline}
-use Rattle.event_laws.proofs.WaitingParcelLaws.{ends-le-kept, handles-le-moving}
+use Rattle.event_laws.proofs.EndEventLaws.{ends-le-kept, handles-le-moving}
 use Rattle.event_laws.proofs.ends.waiting_parcels_are_bounded.Goals as goal
 
 pub returns-clause-ends : goal.returns-clause-ends

@@ -1,5 +1,5 @@
 use Rattle.event_laws.proofs.Common.{legal_grows, timeline}
-use Rattle.event_laws.proofs.HandleSumNamedLaws.{lists_allocated}
+use Rattle.event_laws.proofs.RecallLaws.{lists_allocated}
 use Rattle.event_laws.proofs.handles.allocated_collections_are_listed.Goals as goal
 
 pub returns : goal.returns

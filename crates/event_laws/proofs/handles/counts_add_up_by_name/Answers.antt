@@ -1,5 +1,5 @@
 use Rattle.event_laws.proofs.Common.{legal_grows, timeline}
-use Rattle.event_laws.proofs.HandleSumNamedLaws.{by_name}
+use Rattle.event_laws.proofs.RecallLaws.{by_name}
 use Rattle.event_laws.proofs.handles.counts_add_up_by_name.Goals as goal
 
 pub returns : goal.returns

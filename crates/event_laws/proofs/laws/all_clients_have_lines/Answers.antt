@@ -1,4 +1,4 @@
-use Rattle.event_laws.proofs.OpenLaws.{members_are}
+use Rattle.event_laws.proofs.ParcelEventLaws.{members_are}
 use Rattle.event_laws.proofs.laws.all_clients_have_lines.Goals as goal
 
 pub returns : goal.returns

@@ -1,5 +1,5 @@
 use Rattle.std.proofs.Common.{length}
-use Rattle.event_laws.proofs.MemberLaws.{IsMarked}
+use Rattle.event_laws.proofs.NumberLaws.{IsMarked}
 use Rattle.event_laws.proofs.parts.mark.Given as goal
 
 abbrev pub invariant-loop-id : goal.invariant-loop-id

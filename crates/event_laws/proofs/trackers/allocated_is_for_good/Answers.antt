@@ -1,5 +1,5 @@
 use Rattle.event_laws.proofs.Common.{legal_grows_on, timeline, ◌++◌}
-use Rattle.event_laws.proofs.AllocatedLaws.{allocated_on}
+use Rattle.event_laws.proofs.RecallLaws.{allocated_on}
 use Rattle.event_laws.proofs.trackers.allocated_is_for_good.Goals as goal
 
 pub returns : goal.returns

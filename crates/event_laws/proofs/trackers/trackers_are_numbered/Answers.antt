@@ -21,18 +21,15 @@ returns-clause-early c pool limits history legal =
 pub returns-clause-waiting : goal.returns-clause-waiting
 returns-clause-waiting c pool limits history entry legal =
     let marks : Timeline = timeline pool history in
-    let next : events (timeline pool (history ++ entry ∷ [])) ≡ events marks + 1 =
-    ap events (timeline-push pool history entry) ∙ events_after pool marks entry in
     all-In (λ (t : Tracked). t.id < events (timeline pool (history ++ entry ∷ []))) (unfired_trackers marks)
     (λ t on. let early : t.id ≤ events marks =
     (numbered pool limits marks (legal_grows_on pool limits history (entry ∷ []) legal).first).early t (In-waiting marks t on).0 in
-    omega (arith, next, early))
+    omega (arith, ap events (timeline-push pool history entry) ∙ events_after pool marks entry, early))
 
 pub returns-clause-made : goal.returns-clause-made
 returns-clause-made c pool limits history entry legal =
     let marks : Timeline = timeline pool history in
-    let next : events (timeline pool (history ++ entry ∷ [])) ≡ events marks + 1 =
-    ap events (timeline-push pool history entry) ∙ events_after pool marks entry in
+    let next = ap events (timeline-push pool history entry) ∙ events_after pool marks entry in
     all-In (λ (t : Tracked). t.id ≡ events (timeline pool (history ++ entry ∷ []))) (tracker_made marks entry)
     (λ t on. made_numbered limits marks entry t (AreAnswers-last pool limits [] history entry legal.answers).1 on ∙ sym next)
 

@@ -35,7 +35,6 @@ free_if_home-requires-clause-others c =
 
 pub returns-clause-outcome : goal.returns-clause-outcome
 returns-clause-outcome c =
-    let t = c.args.table.now in
     let now = c.get_mut.result.now in
     let is = read_through c.args.entries.now.items c.args.at c.get_mut.ensures.value c.index_mut.ensures.value in
     let told = c.requires.place in
@@ -47,7 +46,7 @@ returns-clause-outcome c =
         kept = stored_so _ _ _ now told is kept counted (returned c);
         counted = counted_now c;
         holds = pool_so _ _ _ now told is kept counted (returned c) _ c.assert_disjoint-2.ensures
-            (c.free_if_home.ensures.pool (beside (forest_of t (rows_of c.args.entries.now.items)) now.id) (held_before c));
+            (c.free_if_home.ensures.pool (beside (forest_of c.args.table.now (rows_of c.args.entries.now.items)) now.id) (held_before c));
       };
       unchanged = λ not. cc;
       same_pool = λ not. cc;

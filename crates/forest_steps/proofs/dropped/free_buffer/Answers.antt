@@ -2,8 +2,8 @@
 use Rattle.forest_steps.proofs.Common.{◌≡◌, ◌<◌, ◌+◌, ◌∙◌, ◌∷◌, ◌++◌, sym, ap, not, false, List, length, take}
 use Rattle.forest_steps.proofs.Common.{drop, get_or, arith, filter, Interval, total, HeldBuffer, Strength}
 use Rattle.forest_steps.proofs.Common.{is_home, Holdings, by_page, is_out, pages_held, same_buffer-true}
-use Rattle.forest_steps.proofs.intervals.Returned.{holds_one, one_returned}
-use Rattle.forest_steps.proofs.lists.Removed.{all_removed, around, filter_removed, left_around, take_removed}
+use Rattle.forest_steps.proofs.intervals.Placings.{holds_one, one_returned}
+use Rattle.forest_steps.proofs.lists.Ranges.{all_removed, around, filter_removed, left_around, take_removed}
 use Rattle.std.proofs.lemmas.Grind.{common_steps}
 use Rattle.forest_steps.proofs.dropped.free_buffer.Goals as goal
 
@@ -14,8 +14,7 @@ give_back-requires c =
     let one : HeldBuffer = c.index.result.now in
     let within : at < length all = omega (arith, c.loop-at-test.true, c.len.ensures) in
     let others : List Interval = c.requires.pool.0 in
-    let is : all ≡ take at all ++ one ∷ drop (at + 1) all =
-    around all at one within ∙ ap (λ h. take at all ++ h ∷ drop (at + 1) all) (sym c.index.ensures) in
+    let is = around all at one within ∙ ap (λ h. take at all ++ h ∷ drop (at + 1) all) (sym c.index.ensures) in
     holds_one _ (take at all) (drop (at + 1) all) one others
     (c.loop-at.invariant.pages others c.requires.pool.1 ∙ ap (λ l. by_page (pages_held l ++ others)) is)
 
@@ -26,8 +25,7 @@ loop-at-preserved-then-eq c =
     let at = c.loop-at.at in
     let one : HeldBuffer = c.index.result.now in
     let within : at < length all = omega (arith, c.loop-at-test.true, c.len.ensures) in
-    let is : all ≡ take at all ++ one ∷ drop (at + 1) all =
-    around all at one within ∙ ap (λ h. take at all ++ h ∷ drop (at + 1) all) (sym c.index.ensures) in
+    let is = around all at one within ∙ ap (λ h. take at all ++ h ∷ drop (at + 1) all) (sym c.index.ensures) in
     let named : one.buffer ≡ c.args.buffer = same_buffer-true _ _ (sym c.eq.ensures ∙ c.if-eq.true) in
     let goes : p one ≡ false =
     ap (λ b. not (is_home (total c.args.holds.now b Strength.Strong) (total c.args.holds.now b Strength.Weak) false)) named

@@ -1,7 +1,7 @@
 -- Where the buffers are abandoned the root is lost, and else nothing is forced.
 use Rattle.forest_steps.proofs.Common.{◌≡◌, ◌∙◌, ◌&&◌, not, sym, inl, inr, [], eq-eqb, and_both}
 use Rattle.forest_steps.proofs.Common.{and_right, both_ways, total, has_given_root, is_held_strongly}
-use Rattle.forest_steps.proofs.mid_event.Closing.{closed_still}
+use Rattle.forest_steps.proofs.mid_event.Counted.{closed_still}
 use Rattle.forest_steps.proofs.event_end.fail_if_abandoned.Goals as goal
 
 pub returns-then-is_abandoned : goal.returns-then-is_abandoned
@@ -12,9 +12,8 @@ returns-then-is_abandoned c = record {
 
 pub returns-else-is_abandoned : goal.returns-else-is_abandoned
 returns-else-is_abandoned c =
-    let t = c.args.nodes.now.table in
     let e = c.args.entry.now in
-    let left = has_given_root t e.keys.items && not (is_held_strongly (total c.args.holds.now) e.id e.buffers) in
+    let left = has_given_root c.args.nodes.now.table e.keys.items && not (is_held_strongly (total c.args.holds.now) e.id e.buffers) in
     let kept = sym c.is_abandoned.ensures ∙ c.if-is_abandoned.false in
     record {
       closed = λ ss pending under out weak.

@@ -1,6 +1,6 @@
 -- What is left to be done is done at the place of the collection.
 use Rattle.forest_steps.proofs.Common.{◌≡◌, refl, arith, set, total, Entry, forest_of, rows_of, beside, place_is, IsClosed}
-use Rattle.forest_steps.proofs.mid_event.Closing.{closes_strong, closes_weak, out_is, pages_mid, under_is}
+use Rattle.forest_steps.proofs.mid_event.Counted.{closes_strong, closes_weak, out_is, pages_mid, under_is}
 use Rattle.forest_steps.proofs.mid_event.Ready.{whole_under}
 use Rattle.forest_store.proofs.rows.Entries.{read_through}
 use Rattle.forest_steps.proofs.event_end.finish_event.Goals as goal
@@ -17,8 +17,7 @@ returns-then-entry-gt0-clause-closes c id told =
 pub fail_if_abandoned-requires-clause-few : goal.fail_if_abandoned-requires-clause-few
 fail_if_abandoned-requires-clause-few c =
     let is = read_through c.args.store.now.entries.items c.args.at c.get_mut-entry.ensures.value c.index_mut.ensures.value in
-    let under = under_is c.requires.may _ c.requires.may.place _ is in
-    (whole_under under).sound.few
+    (whole_under (under_is c.requires.may _ c.requires.may.place _ is)).sound.few
 
 pub free_home_buffers-requires : goal.free_home_buffers-requires
 free_home_buffers-requires c =

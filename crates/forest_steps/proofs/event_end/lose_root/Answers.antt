@@ -1,6 +1,6 @@
 -- The first node is the root, which is lost with all that is left.
 use Rattle.forest_steps.proofs.Common.{◌≡◌, ◌∙◌, sym, ap, [], List, Some, NodeKey, slice_get}
-use Rattle.forest_steps.proofs.mid_event.Closing.{closed_lost, may_go}
+use Rattle.forest_steps.proofs.mid_event.Counted.{closed_lost, may_go}
 use Rattle.forest_steps.proofs.event_end.lose_root.Goals as goal
 
 pub returns : goal.returns

@@ -9,7 +9,6 @@ use Rattle.forest_steps.proofs.mid_event.Stepping.{begins_at, one_id, node_there
 use Rattle.forest_steps.proofs.mid_event.RootOutcome.{may_close, pool_then, waits_not}
 use Rattle.forest_steps.proofs.initial_allocation.allocate_root.Answers.Points.{affects, comes, found, outcome_then}
 use Rattle.forest_steps.proofs.initial_allocation.allocate_root.Answers.Points.{planned, rooted, told_then, under}
-use Rattle.std.proofs.Common.{rules}
 use Rattle.forest_store.proofs.rows.Entries.{read_through}
 use Rattle.forest_steps.proofs.initial_allocation.allocate_root.Goals as goal
 mod Points
@@ -42,8 +41,7 @@ planned-requires-clause-worked c =
 -- an effect that changes no count makes no unit ready
 pub returns-in_default-clause-waits : goal.returns-in_default-clause-waits
 returns-in_default-clause-waits c told e is held =
-    let effect = c.args.made.now.effect in
-    let keeps : KeepsCounts effect = rw c.in_default.is at (c.requires.worked e is) in
+    let keeps : KeepsCounts c.args.made.now.effect = rw c.in_default.is at (c.requires.worked e is) in
     waits_plain (begins_at (total c.args.holds.now) e is c.requires.ready refl) _ _ keeps.plain
 
 -- the unit does not come to its allocation
@@ -103,39 +101,3 @@ returns-clause-outcome c =
           (outcome_then c.before closed c.finish_event.ensures.size);
       units = closed.units;
     }
-
-pub returns-in_default-planned-clause-same : goal.returns-in_default-planned-clause-same
-returns-in_default-planned-clause-same c = search rules
-
-pub settle_first-requires-clause-few : goal.settle_first-requires-clause-few
-settle_first-requires-clause-few c = search rules
-
-pub settle_first-requires-clause-named : goal.settle_first-requires-clause-named
-settle_first-requires-clause-named c = search rules
-
-pub finish_event-requires-clause-room : goal.finish_event-requires-clause-room
-finish_event-requires-clause-room c = search rules
-
-pub make_effect-requires-clause-named : goal.make_effect-requires-clause-named
-make_effect-requires-clause-named c = search rules
-
-pub planned-requires-clause-room : goal.planned-requires-clause-room
-planned-requires-clause-room c = search rules
-
-pub returns-clause-same : goal.returns-clause-same
-returns-clause-same c = search rules
-
-pub returns-clause-waits : goal.returns-clause-waits
-returns-clause-waits c = search rules
-
-pub returns-in_default-clause-outcome : goal.returns-in_default-clause-outcome
-returns-in_default-clause-outcome c = search rules
-
-pub returns-in_default-clause-same : goal.returns-in_default-clause-same
-returns-in_default-clause-same c = search rules
-
-pub returns-in_default-planned-clause-outcome : goal.returns-in_default-planned-clause-outcome
-returns-in_default-planned-clause-outcome c = search rules
-
-pub settle_first-requires-clause-room : goal.settle_first-requires-clause-room
-settle_first-requires-clause-room c = search rules

@@ -1,9 +1,8 @@
 -- The root's unit has its buffers, and those that follow it had their turns.
-use Rattle.forest_steps.proofs.Common.{◌≡◌, ℕ, ◌+◌, ◌∷◌, [], List, Some, length, refl, ap, sym, subst, ◌∙◌, arith, HeldBuffer}
-use Rattle.forest_steps.proofs.Common.{total, Entry, CollectionRow, nodes_with, put_row, row_of, reserved_count, after_allocation}
-use Rattle.forest_steps.proofs.Common.{IsGivenAt, AllocationOutcome, PendingUnit, IsComing, IsRooted, AreTurns, MidEvent}
+use Rattle.forest_steps.proofs.Common.{AllocationOutcome, AreTurns, CollectionRow, Entry, HeldBuffer, IsComing, IsGivenAt, IsRooted, List}
+use Rattle.forest_steps.proofs.Common.{MidEvent, PendingUnit, Some, [], after_allocation, ap, arith, length, nodes_with, put_row, refl}
+use Rattle.forest_steps.proofs.Common.{reserved_count, row_of, subst, sym, total, ℕ, ◌∙◌, ◌∷◌, ◌≡◌}
 use Rattle.forest_steps.proofs.mid_event.RootGiven.{root_left, rooted_given, turns_then, under_then, waits_no_more}
-use Rattle.std.proofs.Common.{rules}
 use Rattle.forest_steps.proofs.initial_allocation.allocate_root_unit.Goals as goal
 
 -- the list has the root's unit
@@ -11,10 +10,7 @@ pub returns-in_default-clause-rooted : goal.returns-in_default-clause-rooted
 returns-in_default-clause-rooted c ss under coming reserved =
     let listed = c.list_pending.ensures.listed ss [] (c.args.plan.now.head ∷ []) (rw c.deref.ensures.value under)
     (root_left coming) in
-    let long : length c.list_pending.new.turns.items ≡ length listed.1.1 + 1 = ap length listed.1.2 ∙ omega arith in
-    let same : length c.deref-3.result.now ≡ length c.list_pending.new.turns.items = ap length c.deref-3.ensures.value in
-    let none : length c.deref-3.result.now ≡ 0 = c.in_default.ensures.cases in
-    absurd (omega (arith, long, same, none))
+    absurd (omega (arith, ap length listed.1.2 ∙ omega arith, ap length c.deref-3.ensures.value, c.in_default.ensures.cases))
 
 module _ (c : goal.After-allocate_all_pending) {ss : List CollectionRow}
     (under : MidEvent c.args.nodes.now.table c.args.nodes.now.units.items ss c.args.entry.now [] (c.args.plan.now.head ∷ []))
@@ -42,8 +38,7 @@ module _ (c : goal.After-allocate_all_pending) {ss : List CollectionRow}
 
     rest_is : listed.1.1 ≡ c.in-Some.rest.now
     rest_is =
-        let both : record { place = listed.1.0; head = c.args.plan.now.head } ∷ listed.1.1 ≡ c.in-Some.field-0-0.now ∷ c.in-Some.rest.now =
-        sym listed.1.2 ∙ (sym c.deref-3.ensures.value ∙ c.in-Some.ensures.cases.0) in
+        let both = sym listed.1.2 ∙ (sym c.deref-3.ensures.value ∙ c.in-Some.ensures.cases.0) in
         cc
 
     turns : AreTurns c.args.nodes.now.table c.args.entry.now.keys.items
@@ -67,39 +62,3 @@ module _ (c : goal.After-allocate_all_pending) {ss : List CollectionRow}
 
 pub returns-clause-rooted : goal.returns-clause-rooted
 returns-clause-rooted c ss under coming reserved = rooted_so c under coming reserved
-
-pub list_pending-requires-clause-there : goal.list_pending-requires-clause-there
-list_pending-requires-clause-there c = search rules
-
-pub mark_allocated-requires-clause-named : goal.mark_allocated-requires-clause-named
-mark_allocated-requires-clause-named c = search rules
-
-pub allocate_all_pending-requires-clause-few : goal.allocate_all_pending-requires-clause-few
-allocate_all_pending-requires-clause-few c = search rules
-
-pub allocate_all_pending-requires-clause-named : goal.allocate_all_pending-requires-clause-named
-allocate_all_pending-requires-clause-named c = search rules
-
-pub allocate_all_pending-requires-clause-room : goal.allocate_all_pending-requires-clause-room
-allocate_all_pending-requires-clause-room c = search rules
-
-pub list_pending-requires-clause-turns : goal.list_pending-requires-clause-turns
-list_pending-requires-clause-turns c = search rules
-
-pub list_pending-requires-clause-walked : goal.list_pending-requires-clause-walked
-list_pending-requires-clause-walked c = search rules
-
-pub mark_allocated-requires-clause-sorted : goal.mark_allocated-requires-clause-sorted
-mark_allocated-requires-clause-sorted c = search rules
-
-pub returns-clause-kept : goal.returns-clause-kept
-returns-clause-kept c = search rules
-
-pub returns-clause-room : goal.returns-clause-room
-returns-clause-room c = search rules
-
-pub returns-in_default-clause-kept : goal.returns-in_default-clause-kept
-returns-in_default-clause-kept c = search rules
-
-pub returns-in_default-clause-room : goal.returns-in_default-clause-room
-returns-in_default-clause-room c = search rules

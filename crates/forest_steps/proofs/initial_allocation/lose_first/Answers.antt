@@ -1,5 +1,5 @@
 -- What is left once the root is lost.
-use Rattle.forest_steps.proofs.mid_event.RootLost.{root_goes, rooted_lost}
+use Rattle.forest_steps.proofs.mid_event.Tops.{root_goes, rooted_lost}
 use Rattle.forest_steps.proofs.initial_allocation.lose_first.Goals as goal
 
 pub returns-clause-rooted : goal.returns-clause-rooted

@@ -1,8 +1,7 @@
 -- The unit is next or not; if it is, it is allocated, or refused and fails.
 use Rattle.forest_steps.proofs.Common.{◌≡◌, sym, ◌∙◌, false, List, NodeKey, Table, Node, TotalDemand}
 use Rattle.forest_steps.proofs.mid_event.Turns.{AreAsked, allocated_by, given_named, refused_by, left, still_led}
-use Rattle.forest_steps.proofs.mid_event.NextThere.{next_by}
-use Rattle.std.proofs.Common.{rules}
+use Rattle.forest_steps.proofs.mid_event.Counted.{next_by}
 use Rattle.forest_steps.proofs.logical_allocation.allocate_pending.Goals as goal
 
 -- what the keys that were read ask for is what those that were listed do
@@ -41,36 +40,3 @@ returns-in-Some-clause-taken c handles ss place ws u turns no_wait has stays =
     (asked_by t k _ ks _ c.deref-2.ensures.value (record { camping = told.camping; at_least = told.at_least; size = told.size }))
     _ has stays (c.fall_by.ensures.after_fall handles ss _ u (left _ ws u turns next))
     (sym c.refusal.ensures ∙ c.in-Some.is)
-
-pub fall_by-requires-clause-named : goal.fall_by-requires-clause-named
-fall_by-requires-clause-named c = search rules
-
-pub fall_by-requires-clause-room : goal.fall_by-requires-clause-room
-fall_by-requires-clause-room c = search rules
-
-pub fall_by-requires-clause-there : goal.fall_by-requires-clause-there
-fall_by-requires-clause-there c = search rules
-
-pub list_unit-requires-clause-room : goal.list_unit-requires-clause-room
-list_unit-requires-clause-room c = search rules
-
-pub list_unit-requires-clause-there : goal.list_unit-requires-clause-there
-list_unit-requires-clause-there c = search rules
-
-pub mark_allocated-requires-clause-named : goal.mark_allocated-requires-clause-named
-mark_allocated-requires-clause-named c = search rules
-
-pub mark_allocated-requires-clause-sorted : goal.mark_allocated-requires-clause-sorted
-mark_allocated-requires-clause-sorted c = search rules
-
-pub overflow_add-entry : goal.overflow_add-entry
-overflow_add-entry c = search rules
-
-pub returns-then-not-is_next-clause-len : goal.returns-then-not-is_next-clause-len
-returns-then-not-is_next-clause-len c = search rules
-
-pub returns-then-not-is_next-clause-named : goal.returns-then-not-is_next-clause-named
-returns-then-not-is_next-clause-named c = search rules
-
-pub returns-then-not-is_next-clause-room : goal.returns-then-not-is_next-clause-room
-returns-then-not-is_next-clause-room c = search rules

@@ -11,8 +11,7 @@ pub returns-in_default-clause-affected : goal.returns-in_default-clause-affected
 returns-in_default-clause-affected c ss n was here own store =
     let t = c.args.nodes.now.table in
     let key = c.args.made.now.key in
-    let effect = c.args.made.now.effect in
-    let keeps : KeepsCounts effect = rw c.in_default.is at c.requires.may.worked in
+    let keeps : KeepsCounts c.args.made.now.effect = rw c.in_default.is at c.requires.may.worked in
     plain_here store key _ was here own
     (c.affect_at.ensures.becomes n was) (c.affect_at.ensures.writes n was) keeps.plain
     (keeps.strong key n)
@@ -37,17 +36,14 @@ returns-in_default-clause-len c =
 pub returns-clause-affected : goal.returns-clause-affected
 returns-clause-affected c ss n was here own store =
     let t = c.args.nodes.now.table in
-    let us = c.args.nodes.now.units.items in
     let e = c.args.entry.now in
     let key = c.args.made.now.key in
     let effect = c.args.made.now.effect in
-    let now = c.affect_at.new.table in
     let counts = c.in-Some.counts in
     let becomes = c.affect_at.ensures.becomes n was in
     let writes = c.affect_at.ensures.writes n was in
-    let worked : AreCounts t us e key effect n counts = (rw c.in-Some.is at c.requires.may.worked) n was in
-    let nodes : nodes_with now e.keys.items ≡ map (affected key effect) (nodes_with t e.keys.items) =
-    nodes_here store key _ was here own becomes writes in
+    let worked : AreCounts t c.args.nodes.now.units.items e key effect n counts = (rw c.in-Some.is at c.requires.may.worked) n was in
+    let nodes = nodes_here store key _ was here own becomes writes in
     let reserved : c.match-counts.entry ≡ reserved_count (map (affected key effect) (nodes_with t e.keys.items)) =
     elim c.match-counts.branch [
       | in-Some-reserved w ↦

@@ -1,7 +1,7 @@
 -- One unit after another.
-use Rattle.forest_steps.proofs.Common.{◌≡◌, ◌+◌, ◌<◌, ◌∷◌, drop, get_or, length, sym, ◌∙◌, arith, total, PendingUnit}
+use Rattle.forest_steps.proofs.Common.{PendingUnit, arith, drop, get_or, sym, total, ◌+◌, ◌∙◌, ◌∷◌}
 use Rattle.std.proofs.lemmas.List.{drop_more}
-use Rattle.forest_steps.proofs.mid_event.Leading.{HaveTurns, turns_more, turns_none}
+use Rattle.forest_steps.proofs.mid_event.EndAbove.{HaveTurns, turns_more, turns_none}
 use Rattle.std.proofs.lemmas.Grind.{common_steps}
 use Rattle.forest_steps.proofs.pending_units.allocate_all_pending.Goals as goal
 
@@ -18,12 +18,10 @@ loop-turn-preserved c =
     let h = total c.args.holds.now in
     let w : PendingUnit = get_or turns i none in
     let was = c.loop-turn.invariant in
-    let within : i < length turns = c.loop-turn-test.true in
-    let front : drop i turns ≡ w ∷ drop (i + 1) turns = drop_more turns i none within in
     let had : HaveTurns h c.args.nodes.now.table c.loop-turn.nodes.table c.args.nodes.now.units.items
     c.loop-turn.nodes.units.items c.args.entry.now
     c.loop-turn.entry c.args.buffers turns (w ∷ drop (i + 1) turns) =
-    rw front at was.had in
+    rw (drop_more turns i none c.loop-turn-test.true) at was.had in
     record {
       named = c.allocate_pending.ensures.named;
       len = c.allocate_pending.ensures.len ∙ was.len;

@@ -1,5 +1,5 @@
 use Rattle.forest_steps.proofs.Common.{◌≡◌, ◌≤◌, drop, Some, total, NodeKey, node_at, Node, table_len, vec_capacity}
-use Rattle.forest_steps.proofs.mid_event.Leading.{HaveTurns}
+use Rattle.forest_steps.proofs.mid_event.EndAbove.{HaveTurns}
 use Rattle.forest_steps.proofs.pending_units.allocate_all_pending.Given as goal
 
 -- the units so far had their turn

@@ -28,13 +28,12 @@ list_placed-requires-clause-room c =
 pub returns-in-Ok-place-clause-some : goal.returns-in-Ok-place-clause-some
 returns-in-Ok-place-clause-some c =
     let pool : ℕ = c.args.pool.now.size in
-    let count : ℕ = c.args.wants.count in
     let starts : List ℕ = c.in-Ok-place.placed.starts.items in
     let placed = c.in-Ok-place.ensures.ok in
     record {
       starts = c.in-Ok-place.placed.starts.items;
       many = (places_first pool c.pages_of-pages.result _ c.args.pool.now.held _ placed.starts_are).0;
-      found = ap (λ p. places pool p count c.args.pool.now.held) (sym c.pages_of-pages.ensures.value) ∙ placed.starts_are;
+      found = ap (λ p. places pool p c.args.wants.count c.args.pool.now.held) (sym c.pages_of-pages.ensures.value) ∙ placed.starts_are;
       lies = c.list_placed.ensures ∙ (λ i. laid c.args.collection (c.pages_of-pages.ensures.value i) 0 (c.deref.ensures.value i)
           ++ c.deref-in-Ok-place.ensures.value i);
       pool = ap (λ p. p.held) placed.held_are

@@ -1,8 +1,7 @@
 -- The units are listed and have their turns, or nothing is due.
 use Rattle.forest_steps.proofs.Common.{◌≡◌, [], ◌∷◌, In-list_any, same_key-true, arith}
-use Rattle.forest_steps.proofs.mid_event.NextThere.{listed_due, none_due, told_left, told_there, next_by}
+use Rattle.forest_steps.proofs.mid_event.Counted.{listed_due, next_by, none_due, told_left, told_there}
 use Rattle.forest_steps.proofs.mid_event.Playing.{played_none}
-use Rattle.std.proofs.Common.{rules}
 use Rattle.forest_steps.proofs.propagation.allocate_ready.Goals as goal
 
 pub list_pending-requires-clause-there : goal.list_pending-requires-clause-there
@@ -12,10 +11,9 @@ list_pending-requires-clause-there c =
 
 pub returns-then-is_next-clause-out : goal.returns-then-is_next-clause-out
 returns-then-is_next-clause-out c ss u there no_wait given =
-    let t = c.args.nodes.now.table in
     let us = c.args.nodes.now.units.items in
     let k = c.args.head in
-    let next = next_by t k _ us _ _ c.is_next.ensures c.deref.ensures.value c.if-is_next.true in
+    let next = next_by c.args.nodes.now.table k _ us _ _ c.is_next.ensures c.deref.ensures.value c.if-is_next.true in
     let x = In-list_any _ _ there in
     let left = told_left u k x.0 x.1 (same_key-true _ k x.2) next in
     let listed = c.list_pending.ensures.listed ss [] (k ∷ []) (rw c.deref-then-is_next.ensures.value u) left in
@@ -25,36 +23,3 @@ returns-then-is_next-clause-out c ss u there no_wait given =
 
 pub returns-else-is_next-clause-out : goal.returns-else-is_next-clause-out
 returns-else-is_next-clause-out c ss u there no_wait given = grind (arith, none_due, played_none, next_by)
-
-pub allocate_all_pending-requires-clause-few : goal.allocate_all_pending-requires-clause-few
-allocate_all_pending-requires-clause-few c = search rules
-
-pub allocate_all_pending-requires-clause-named : goal.allocate_all_pending-requires-clause-named
-allocate_all_pending-requires-clause-named c = search rules
-
-pub allocate_all_pending-requires-clause-room : goal.allocate_all_pending-requires-clause-room
-allocate_all_pending-requires-clause-room c = search rules
-
-pub list_pending-requires-clause-turns : goal.list_pending-requires-clause-turns
-list_pending-requires-clause-turns c = search rules
-
-pub list_pending-requires-clause-walked : goal.list_pending-requires-clause-walked
-list_pending-requires-clause-walked c = search rules
-
-pub returns-else-is_next-clause-len : goal.returns-else-is_next-clause-len
-returns-else-is_next-clause-len c = search rules
-
-pub returns-else-is_next-clause-named : goal.returns-else-is_next-clause-named
-returns-else-is_next-clause-named c = search rules
-
-pub returns-else-is_next-clause-room : goal.returns-else-is_next-clause-room
-returns-else-is_next-clause-room c = search rules
-
-pub returns-then-is_next-clause-len : goal.returns-then-is_next-clause-len
-returns-then-is_next-clause-len c = search rules
-
-pub returns-then-is_next-clause-named : goal.returns-then-is_next-clause-named
-returns-then-is_next-clause-named c = search rules
-
-pub returns-then-is_next-clause-room : goal.returns-then-is_next-clause-room
-returns-then-is_next-clause-room c = search rules

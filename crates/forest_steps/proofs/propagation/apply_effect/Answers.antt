@@ -3,9 +3,8 @@ use Rattle.forest_steps.proofs.Common.{◌≡◌, ◌∙◌, sym, subst, refl, L
 use Rattle.forest_steps.proofs.Common.{NodeKey, total, Table, node_at, Effect, Entry, Node, Unit, CollectionRow}
 use Rattle.forest_steps.proofs.Common.{EffectCounts, AfterEffect, EffectMade, MidEvent, AreCountsThen, KeepsCounts}
 use Rattle.forest_steps.proofs.mid_event.Changing.{affected_on, still_played}
-use Rattle.forest_steps.proofs.mid_event.NextThere.{none_bare}
+use Rattle.forest_steps.proofs.mid_event.Counted.{none_bare}
 use Rattle.forest_steps.proofs.mid_event.Playing.{played_affected, played_none, still_left}
-use Rattle.std.proofs.Common.{rules}
 use Rattle.forest_steps.proofs.propagation.apply_effect.Goals as goal
 
 -- an effect that changes no count is all that is made
@@ -14,8 +13,7 @@ returns-in_default-clause-out c ss n at here own under waits =
     let t = c.args.nodes.now.table in
     let now = c.make_effect.new.nodes.table in
     let key = c.args.made.now.key in
-    let effect = c.args.made.now.effect in
-    let keeps : KeepsCounts effect = rw c.in_default.is at c.requires.may.worked in
+    let keeps : KeepsCounts c.args.made.now.effect = rw c.in_default.is at c.requires.may.worked in
     still_played at own under (c.make_effect.ensures.affected ss n at here own under.store) here (c.make_effect.ensures.becomes n at)
     (c.make_effect.ensures.writes n at) (total c.args.holds.now) None keeps refl
 
@@ -43,49 +41,9 @@ returns-in_default-given-clause-out c ss n at here own under waits =
     let head = c.in-Some.counts.head in
     let handles = total c.args.holds.now in
     let vs = c.end_above.new.nodes.units.items in
-    let e2 = c.end_above.new.entry in
     let done = counted_on _ _ _ _ ss _ _ _ _ _ _ c.in-Some.is c.requires.may.worked n at own under
     (c.make_effect.ensures.affected ss n at here own under.store) in
     let left = still_left done in
     played_affected done
     (c.end_above.ensures.led handles ss (head ∷ []) done.under left) (c.end_above.ensures.ended ss (head ∷ []) done.under left) waits
-    _ vs e2 (λ pending there no_wait same. played_none _ (none_bare pending no_wait (same ∙ c.in_default-given.is)))
-
-pub make_effect-requires-clause-may : goal.make_effect-requires-clause-may
-make_effect-requires-clause-may c = search rules
-
-pub end_above-requires-clause-named : goal.end_above-requires-clause-named
-end_above-requires-clause-named c = search rules
-
-pub allocate_ready-requires-clause-named : goal.allocate_ready-requires-clause-named
-allocate_ready-requires-clause-named c = search rules
-
-pub returns-in_default-given-clause-named : goal.returns-in_default-given-clause-named
-returns-in_default-given-clause-named c = search rules
-
-pub allocate_ready-requires-clause-few : goal.allocate_ready-requires-clause-few
-allocate_ready-requires-clause-few c = search rules
-
-pub allocate_ready-requires-clause-room : goal.allocate_ready-requires-clause-room
-allocate_ready-requires-clause-room c = search rules
-
-pub end_above-requires-clause-room : goal.end_above-requires-clause-room
-end_above-requires-clause-room c = search rules
-
-pub make_effect-requires-clause-named : goal.make_effect-requires-clause-named
-make_effect-requires-clause-named c = search rules
-
-pub returns-in_default-clause-len : goal.returns-in_default-clause-len
-returns-in_default-clause-len c = search rules
-
-pub returns-in_default-clause-named : goal.returns-in_default-clause-named
-returns-in_default-clause-named c = search rules
-
-pub returns-in_default-clause-room : goal.returns-in_default-clause-room
-returns-in_default-clause-room c = search rules
-
-pub returns-in_default-given-clause-len : goal.returns-in_default-given-clause-len
-returns-in_default-given-clause-len c = search rules
-
-pub returns-in_default-given-clause-room : goal.returns-in_default-given-clause-room
-returns-in_default-given-clause-room c = search rules
+    _ vs c.end_above.new.entry (λ pending there no_wait same. played_none _ (none_bare pending no_wait (same ∙ c.in_default-given.is)))

@@ -5,7 +5,7 @@ use Rattle.std.proofs.Common.{All}
 use Rattle.std.proofs.lemmas.List.Elements.{Contains-get_or}
 use Rattle.node_table.specs.Forest.{IsForest}
 use Rattle.forest_store.specs.Ties.{IsFall}
-use Rattle.forest_steps.proofs.tables.Rows.{reached_there, still_named}
+use Rattle.forest_steps.proofs.tables.OfRow.{reached_there, still_named}
 use Rattle.forest_steps.proofs.removal.remove_taken.Goals as goal
 
 -- what falls is there, since its origin is
@@ -37,7 +37,6 @@ note_gone-requires-clause-over c = grind (arith, went_now)
 pub returns-clause-gone : goal.returns-clause-gone
 returns-clause-gone c =
     let t = c.args.nodes.now.table in
-    let now = c.remove_all-removed.new.table in
     record {
       taken = search rules;
       forest = search rules;
@@ -54,7 +53,7 @@ returns-clause-gone c =
           ∙ ap (λ ks. reserved_count (nodes_with t ks)) c.deref-2.ensures.value) ∙ is);
       unkept_known = c.note_gone.ensures.entry.unkept_known;
       more = c.note_gone.ensures.entry.more;
-      over = λ h. ap (λ ks. list_any (unkept_except c.note_gone.new.entry.unkept.items) (nodes_with now ks))
+      over = λ h. ap (λ ks. list_any (unkept_except c.note_gone.new.entry.unkept.items) (nodes_with c.remove_all-removed.new.table ks))
           (sym c.deref-3.ensures.value) ∙ c.note_gone.ensures.over h;
     }
 

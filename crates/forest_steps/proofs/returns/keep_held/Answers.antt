@@ -1,5 +1,5 @@
 use Rattle.forest_steps.proofs.Common.{◌∙◌, sym, arith, total, is_out}
-use Rattle.forest_steps.proofs.lists.Removed.{filter_empty, filter_removed, filter_whole, take_removed}
+use Rattle.forest_steps.proofs.lists.Ranges.{filter_empty, filter_removed, filter_whole, take_removed}
 use Rattle.std.proofs.lemmas.Grind.{common_steps}
 use Rattle.forest_steps.proofs.returns.keep_held.Goals as goal
 

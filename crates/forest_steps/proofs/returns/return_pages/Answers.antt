@@ -3,7 +3,7 @@ use Rattle.forest_steps.proofs.Common.{false, cond, List, length, take, drop, ge
 use Rattle.forest_steps.proofs.Common.{total, HeldBuffer, by_page, is_out, pages_held, in_order, rest_of}
 use Rattle.std.proofs.lemmas.List.Filters.{length-filter_more}
 use Rattle.buffer_pool.proofs.Runs.{in_order-without_run}
-use Rattle.forest_steps.proofs.intervals.Returned.{holds_one, kept_here, kept_past, one_returned}
+use Rattle.forest_steps.proofs.intervals.Placings.{holds_one, kept_here, kept_past, one_returned}
 use Rattle.std.proofs.lemmas.Grind.{common_steps}
 use Rattle.forest_steps.proofs.returns.return_pages.Goals as goal
 

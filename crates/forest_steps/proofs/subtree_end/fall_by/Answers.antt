@@ -1,7 +1,6 @@
 -- What fell is gone, and what nothing holds then ended.
 use Rattle.forest_steps.proofs.Common.{◌≡◌, refl, sym, subst, true, CollectionRow, nodes_with, is_head_left}
-use Rattle.forest_steps.proofs.mid_event.AfterLosses.{after_fall_alone, after_fall_on}
-use Rattle.std.proofs.Common.{rules}
+use Rattle.forest_steps.proofs.mid_event.EndAbove.{after_fall_alone, after_fall_on}
 use Rattle.forest_steps.proofs.subtree_end.fall_by.Goals as goal
 
 pub returns-in_default-clause-after_fall : goal.returns-in_default-clause-after_fall
@@ -16,36 +15,3 @@ returns-in-Some-clause-after_fall c handles ss pending u left =
     ≡ true) (sym went.row) went.left in
     after_fall_on _ went (c.end_above.ensures.led handles ss pending went.under still)
     (c.end_above.ensures.ended ss pending went.under still)
-
-pub end_above-requires-clause-named : goal.end_above-requires-clause-named
-end_above-requires-clause-named c = search rules
-
-pub returns-in-Some-clause-named : goal.returns-in-Some-clause-named
-returns-in-Some-clause-named c = search rules
-
-pub end_above-requires-clause-room : goal.end_above-requires-clause-room
-end_above-requires-clause-room c = search rules
-
-pub remove_subtree-requires-clause-named : goal.remove_subtree-requires-clause-named
-remove_subtree-requires-clause-named c = search rules
-
-pub remove_subtree-requires-clause-room : goal.remove_subtree-requires-clause-room
-remove_subtree-requires-clause-room c = search rules
-
-pub remove_subtree-requires-clause-there : goal.remove_subtree-requires-clause-there
-remove_subtree-requires-clause-there c = search rules
-
-pub returns-in_default-clause-len : goal.returns-in_default-clause-len
-returns-in_default-clause-len c = search rules
-
-pub returns-in_default-clause-named : goal.returns-in_default-clause-named
-returns-in_default-clause-named c = search rules
-
-pub returns-in_default-clause-room : goal.returns-in_default-clause-room
-returns-in_default-clause-room c = search rules
-
-pub returns-in-Some-clause-len : goal.returns-in-Some-clause-len
-returns-in-Some-clause-len c = search rules
-
-pub returns-in-Some-clause-room : goal.returns-in-Some-clause-room
-returns-in-Some-clause-room c = search rules

@@ -14,9 +14,3 @@ returns-then-is_one_of c =
     let key : c.args.key ≡ n.key = sym (c.requires.named c.args.key n was) in
     given_written t c.requires.named _ _ was (rw is at (rw key at (c.write_allocated.ensures.becomes n was)))
     (rw is at (rw key at (c.write_allocated.ensures.writes n was)))
-
-pub returns-else-is_one_of : goal.returns-else-is_one_of
-returns-else-is_one_of c = search rules
-
-pub returns-in_default : goal.returns-in_default
-returns-in_default c = search rules

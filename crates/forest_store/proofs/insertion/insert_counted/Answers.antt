@@ -2,7 +2,7 @@
 use Rattle.forest_store.proofs.Common.{ℕ, ◌<◌, length, ap, sym, subst, ◌∙◌, NodeKey, rows_of}
 use Rattle.forest_store.proofs.newborns.Units.{newborn_units}
 use Rattle.forest_store.proofs.newborns.Newborn.{above_is, above_there}
-use Rattle.forest_store.proofs.newborns.Bearing.{born_found, born_key, born_live, born_unready}
+use Rattle.forest_store.proofs.newborns.Members.{born_found, born_key, born_live, born_unready}
 use Rattle.forest_store.proofs.insertion.insert_counted.Goals as goal
 
 -- a birth is below a node that is kept
@@ -25,8 +25,7 @@ count_born-requires-clause-there c =
 pub returns-clause-units : goal.returns-clause-units
 returns-clause-units c =
     let at = above_is _ _ c.requires.forest.kept _ _ _ _ _ c.requires.change in
-    let key_is = born_key _ _ _ _ _ _ in
-    let slot_is = ap (λ (k : NodeKey). k.slot) (sym key_is) ∙ c.in_ok-key.ensures.ok.bears.gives.slot in
+    let slot_is = ap (λ (k : NodeKey). k.slot) (sym (born_key _ _ _ _ _ _)) ∙ c.in_ok-key.ensures.ok.bears.gives.slot in
     let inside = subst (λ (slot : ℕ). slot < length c.args.store.now.nodes.units.items) (sym slot_is) c.requires.reached in
     rw (c.count_born.ensures, c.name.ensures, c.put_unit.ensures, c.no_unit.ensures, c.insert_uncounted.ensures.units)
     (newborn_units _ _ _ c.requires.forest.kept _ _ _ _ _ _ at c.in_ok-key.key c.in_ok-key.ensures.ok.bears

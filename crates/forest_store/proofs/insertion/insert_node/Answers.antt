@@ -1,6 +1,6 @@
 -- The node is stored under the key, and then knows it.
 use Rattle.forest_store.proofs.Common.{option_map, refl, ap, Node, Row}
-use Rattle.forest_store.proofs.newborns.Bearing.{bears_node}
+use Rattle.forest_store.proofs.newborns.Members.{bears_node}
 use Rattle.forest_store.proofs.insertion.insert_node.Goals as goal
 
 pub name_at-requires : goal.name_at-requires

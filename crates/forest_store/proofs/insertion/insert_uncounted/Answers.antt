@@ -1,8 +1,7 @@
 -- The node is born among those of its collection, or is its first.
 use Rattle.forest_store.proofs.Common.{ap, arith, rows_of}
 use Rattle.forest_store.proofs.leaving.EntryAt.{place_told}
-use Rattle.forest_store.proofs.newborns.Entries.{refused_two}
-use Rattle.forest_store.proofs.newborns.Inserted.{few, inserted, inserted_first, parent_there, refused}
+use Rattle.forest_store.proofs.newborns.Entries.{few, inserted, inserted_first, parent_there, refused, refused_two}
 use Rattle.forest_store.proofs.Basics.{place_within}
 use Rattle.forest_store.proofs.rows.Entries.{read_through}
 use Rattle.forest_store.proofs.insertion.insert_uncounted.Goals as goal

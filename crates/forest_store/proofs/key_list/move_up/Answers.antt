@@ -1,6 +1,6 @@
 -- The cells lie one further.
 use Rattle.forest_store.proofs.Common.{◌+◌, ◌∙◌, ap, drop}
-use Rattle.forest_store.proofs.leaving.KeyMoves.{moved_over}
+use Rattle.forest_store.proofs.leaving.Places.{moved_over}
 use Rattle.forest_store.proofs.key_list.move_up.Goals as goal
 
 pub returns-clause-items : goal.returns-clause-items

@@ -3,7 +3,7 @@ use Rattle.forest_store.proofs.Common.{arith, common_steps, filter_map-append}
 use Rattle.forest_store.proofs.lookup.add_kept.Goals.{in-Some+in_ok-push, in_default}
 use Rattle.std.proofs.lemmas.Result.{IfOk-from_err}
 use Rattle.forest_store.proofs.Common.{append-nil, nodes_with, sym}
-use Rattle.forest_store.proofs.lists.Growth.{behind_all}
+use Rattle.forest_store.proofs.lists.Elements.{behind_all}
 use Rattle.forest_store.proofs.lookup.add_kept.Goals as goal
 
 pub loop-key-preserved : goal.loop-key-preserved

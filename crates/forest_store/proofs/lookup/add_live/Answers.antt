@@ -3,7 +3,7 @@ use Rattle.forest_store.proofs.Common.{arith, common_steps, filter_map-append, f
 use Rattle.forest_store.proofs.lookup.add_live.Goals.{in-Some+then-is_live+in_ok-push, in-Some+else-is_live, in_default}
 use Rattle.std.proofs.lemmas.Result.{IfOk-from_err}
 use Rattle.forest_store.proofs.Common.{NodeKey, List, append-nil, filter, is_live_node, nodes_with, sym}
-use Rattle.forest_store.proofs.lists.Growth.{behind_all}
+use Rattle.forest_store.proofs.lists.Elements.{behind_all}
 use Rattle.forest_store.proofs.lookup.add_live.Goals as goal
 
 pub loop-key-preserved : goal.loop-key-preserved

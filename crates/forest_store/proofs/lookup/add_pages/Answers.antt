@@ -1,7 +1,7 @@
 -- The pages of one buffer more come last.
 use Rattle.std.proofs.lemmas.Result.{IfOk-from_err}
 use Rattle.forest_store.proofs.Common.{append-nil, arith, common_steps, pages_held, sym}
-use Rattle.forest_store.proofs.lists.Growth.{behind_all}
+use Rattle.forest_store.proofs.lists.Elements.{behind_all}
 use Rattle.forest_store.proofs.lookup.add_pages.Goals as goal
 
 pub loop-buffer-init : goal.loop-buffer-init

@@ -2,7 +2,7 @@
 use Rattle.forest_store.proofs.Common.{arith, common_steps, flat_map-append, map-append, filter_map-append}
 use Rattle.std.proofs.lemmas.Result.{IfOk-from_err}
 use Rattle.forest_store.proofs.Common.{Entry, List, all_keys, nodes_with, rows_of}
-use Rattle.forest_store.proofs.lists.Growth.{made_all}
+use Rattle.forest_store.proofs.lists.Elements.{made_all}
 use Rattle.forest_store.proofs.lookup.kept_nodes.Goals as goal
 
 pub loop-entry-preserved : goal.loop-entry-preserved

@@ -2,7 +2,7 @@
 use Rattle.forest_store.proofs.Common.{arith, common_steps, flat_map-append, filter-append}
 use Rattle.std.proofs.lemmas.Result.{IfOk-from_err}
 use Rattle.forest_store.proofs.Common.{Entry, List, ◌==◌, filter, flat_map, not, pages_held}
-use Rattle.forest_store.proofs.lists.Growth.{made_all}
+use Rattle.forest_store.proofs.lists.Elements.{made_all}
 use Rattle.forest_store.proofs.lookup.pages_beside.Goals as goal
 
 pub loop-entry-preserved : goal.loop-entry-preserved

@@ -10,8 +10,7 @@ returns-clause-reserved c =
     let none : amount_of camped (nodes_with t (drop c.loop-key.key-index c.args.keys.now)) ≡ 0 =
     ap (λ (ks : List NodeKey). amount_of camped (nodes_with t ks))
     (drop_all c.loop-key.key-index c.args.keys.now (omega (arith, c.loop-key-test.false))) in
-    let all = c.loop-key.invariant.reserved in
-    omega (arith, none, all) ∙ sym (reserved_is (nodes_with t c.args.keys.now))
+    omega (arith, none, c.loop-key.invariant.reserved) ∙ sym (reserved_is (nodes_with t c.args.keys.now))
 
 pub loop-key-preserved : goal.loop-key-preserved
 loop-key-preserved c = grind (arith, common_steps)

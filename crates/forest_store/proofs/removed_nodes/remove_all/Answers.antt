@@ -15,8 +15,7 @@ pub remove-one-requires : goal.remove-one-requires
 remove-one-requires c =
     let none : NodeKey = record { slot = 0; generation = 0 } in
     let i = c.loop-key.key-index in
-    let k : NodeKey = get_or c.args.keys.now i none in
-    row_still c.args.table.now c.requires.named c.args.going.now _ k
+    row_still c.args.table.now c.requires.named c.args.going.now _ (get_or c.args.keys.now i none)
     (once_before _ i none c.requires.once c.loop-key-test.true) c.loop-key.table c.loop-key.invariant.stores
     (c.requires.there i none c.loop-key-test.true)
 
@@ -35,8 +34,7 @@ loop-key-preserved c =
     let g = c.args.going.now in
     let stores = c.loop-key.invariant.stores in
     let same : node_at u k ≡ node_at t k = still_there t c.requires.named g _ k apart u stores in
-    let strong : c.remove-one.result.strong ≡ strong_count (nodes_with t (k ∷ [])) =
-    c.remove-one.ensures.strong ∙ ap (λ (o : Option Node). strong_count (cons_option o [])) same in
+    let strong = c.remove-one.ensures.strong ∙ ap (λ (o : Option Node). strong_count (cons_option o [])) same in
     let reserved : c.remove-one.result.reserved ≡ amount_of camped (nodes_with t (k ∷ [])) =
     c.remove-one.ensures.reserved ∙ reserved_is (nodes_with u (k ∷ []))
     ∙ ap (λ (o : Option Node). amount_of camped (cons_option o [])) same in
@@ -79,8 +77,7 @@ returns-clause-reserved c =
     let none : amount_of camped (nodes_with t (drop c.loop-key.key-index c.args.keys.now)) ≡ 0 =
     ap (λ (ks : List NodeKey). amount_of camped (nodes_with t ks))
     (drop_all c.loop-key.key-index c.args.keys.now (omega (arith, c.loop-key-test.false))) in
-    let all = c.loop-key.invariant.reserved in
-    omega (arith, none, all) ∙ sym (reserved_is (nodes_with t c.args.keys.now))
+    omega (arith, none, c.loop-key.invariant.reserved) ∙ sym (reserved_is (nodes_with t c.args.keys.now))
 
 pub returns-clause-strong : goal.returns-clause-strong
 returns-clause-strong c = grind (arith, common_steps)

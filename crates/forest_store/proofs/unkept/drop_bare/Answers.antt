@@ -1,7 +1,6 @@
 -- The entry at the place of the id is removed, which has no key and no buffer.
 use Rattle.forest_store.proofs.Common.{◌∙◌, ap, rows_of}
-use Rattle.forest_store.proofs.rows.Counted.{counted_removed}
-use Rattle.forest_store.proofs.rows.Dropping.{remove_bare}
+use Rattle.forest_store.proofs.rows.Counted.{counted_removed, remove_bare}
 use Rattle.forest_store.proofs.unkept.drop_bare.Goals as goal
 
 pub returns-clause-rows : goal.returns-clause-rows

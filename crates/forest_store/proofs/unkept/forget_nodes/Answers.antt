@@ -1,10 +1,9 @@
 -- The nodes that are unkept are taken out, with their keys; where none is, nothing changes.
 use Rattle.forest_store.proofs.Common.{◌≡◌, None, Some, refl, sym, ◌∙◌, subst, arith, IsStored, place_in, IsBareAt}
-use Rattle.forest_store.proofs.leaving.EntryAt.{at_place, bare_at, bare_then, counted_then, no_place, forgettable, left_known, left_then}
-use Rattle.forest_store.proofs.leaving.EntryAt.{place_told, rows_then, stays, stays_then}
-use Rattle.forest_store.proofs.leaving.Forgotten.{thin_filed}
+use Rattle.forest_store.proofs.leaving.EntryAt.{at_place, bare_at, bare_then, counted_then, forgettable, left_known, left_then, no_place}
+use Rattle.forest_store.proofs.leaving.EntryAt.{place_told, rows_then, stays, stays_then, thin_filed}
 use Rattle.forest_store.proofs.leaving.Thinning.{all_thinned-same}
-use Rattle.forest_store.proofs.rows.Dropping.{bare_none, no_row}
+use Rattle.forest_store.proofs.rows.Counted.{bare_none, no_row}
 use Rattle.forest_store.proofs.rows.Entries.{read_through}
 use Rattle.forest_store.proofs.Basics.{place_within}
 use Rattle.forest_store.proofs.unkept.forget_nodes.Goals as goal

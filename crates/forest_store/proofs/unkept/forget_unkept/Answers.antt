@@ -1,6 +1,6 @@
 -- The nodes that are unkept are forgotten, and then the collection, if it is bare.
 use Rattle.forest_store.proofs.Common.{◌≡◌, map, sym, ◌∙◌, ap, subst, arith, AreRising, IsStored, collection_in, rows_of, without_bare}
-use Rattle.forest_store.proofs.leaving.Forgotten.{forgotten_collections, forgotten_kept, forgotten_rising}
+use Rattle.forest_store.proofs.leaving.EntryAt.{forgotten_collections, forgotten_kept, forgotten_rising}
 use Rattle.forest_store.proofs.Basics.{place_is}
 use Rattle.forest_store.proofs.unkept.forget_unkept.Goals as goal
 

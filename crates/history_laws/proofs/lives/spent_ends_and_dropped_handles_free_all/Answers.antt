@@ -1,4 +1,4 @@
-use Rattle.history_laws.proofs.Common.{HeldBuffer, List, [], ap, arith, births, held, sum_by, timeline, ◌-◌, ◌∙◌, ◌≡◌}
+use Rattle.history_laws.proofs.Common.{HeldBuffer, List, [], ap, arith, births, sum_by, timeline, ◌-◌, ◌∙◌, ◌≡◌}
 use Rattle.history_laws.proofs.EndLaws.{spent_left, no_live_nodes, none_held}
 use Rattle.history_laws.proofs.SettledLaws.{In-was_born}
 use Rattle.history_laws.proofs.lives.spent_ends_and_dropped_handles_free_all.Goals as goal
@@ -16,7 +16,6 @@ returns-clause-held c pool limits history legal all none =
 
 pub returns-clause-free : goal.returns-clause-free
 returns-clause-free c pool limits history legal all none =
-    let e : held pool (timeline pool history) ≡ [] =
-    none_held pool limits history legal (λ b on. all b.node (In-was_born (births (timeline pool history)) b on)) none in
+    let e = none_held pool limits history legal (λ b on. all b.node (In-was_born (births (timeline pool history)) b on)) none in
     let whole : pool - 0 ≡ pool = omega arith in
     ap (λ (l : List HeldBuffer). pool - sum_by (λ (h : HeldBuffer). h.pages.pages) l) e ∙ whole

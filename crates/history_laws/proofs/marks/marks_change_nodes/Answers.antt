@@ -1,4 +1,4 @@
-use Rattle.history_laws.proofs.MemberLaws.{members-Loss, members-Allocated, members-Ended, member-birth}
+use Rattle.history_laws.proofs.StandingLaws.{member-birth, members-Allocated, members-Ended, members-Loss}
 use Rattle.history_laws.proofs.marks.marks_change_nodes.Goals as goal
 
 pub returns-clause-loss : goal.returns-clause-loss

@@ -1,5 +1,5 @@
 use Rattle.history_laws.proofs.Common.{ap, forced}
-use Rattle.history_laws.proofs.QuietLaws.{readings-quiet, standing-quiet, seen-quiet, fired-quiet}
+use Rattle.history_laws.proofs.FiredLaws.{fired-quiet, readings-quiet, seen-quiet, standing-quiet}
 use Rattle.history_laws.proofs.marks.quiet_calls_change_nothing.Goals as goal
 
 pub returns-clause-read : goal.returns-clause-read

@@ -1,4 +1,4 @@
-use Rattle.history_laws.proofs.RefusedLaws.{readings-Refused, fired-Refused}
+use Rattle.history_laws.proofs.FiredLaws.{fired-Refused, readings-Refused}
 use Rattle.history_laws.proofs.marks.refused_calls_change_nothing.Goals as goal
 
 pub returns-clause-read : goal.returns-clause-read

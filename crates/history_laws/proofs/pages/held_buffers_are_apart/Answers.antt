@@ -1,7 +1,6 @@
 use Rattle.sm_names.specs.Timelines.{timeline}
 use Rattle.history_laws.proofs.GrowthLaws.{legal_grows}
-use Rattle.history_laws.proofs.HeldLaws.{are_held, stands_held, held_once, free_and_held}
-use Rattle.history_laws.proofs.SizeLaws.{held_sized}
+use Rattle.history_laws.proofs.HeldLaws.{are_held, free_and_held, held_once, held_sized, stands_held}
 use Rattle.history_laws.proofs.pages.held_buffers_are_apart.Goals as goal
 
 pub returns-clause-apart : goal.returns-clause-apart

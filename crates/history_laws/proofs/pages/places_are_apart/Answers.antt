@@ -1,6 +1,5 @@
-use Rattle.history_laws.proofs.PageLaws.{placed_apart, no_common_page}
+use Rattle.history_laws.proofs.PageLaws.{first_places, no_common_page, placed_apart, places_stuck, stuck_places}
 use Rattle.sm_names.proofs.PlaceLaws.{places_first, places_same}
-use Rattle.history_laws.proofs.RoomLaws.{first_places, places_stuck, stuck_places}
 use Rattle.history_laws.proofs.pages.places_are_apart.Goals as goal
 
 pub returns-clause-apart : goal.returns-clause-apart

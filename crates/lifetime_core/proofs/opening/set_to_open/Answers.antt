@@ -1,4 +1,4 @@
-use Rattle.std.proofs.Common.{ℕ, zero, suc, ◌≡◌, ◌+◌, ◌*◌, ◌^◌, ◌==◌, ◌&&◌, ◌∙◌, Bool, true, false, not, cond, refl, ap, sym, subst, arith}
+use Rattle.std.proofs.Common.{Bool, ap, arith, cond, false, not, refl, subst, suc, sym, true, zero, ℕ, ◌&&◌, ◌+◌, ◌==◌, ◌^◌, ◌∙◌, ◌≡◌}
 use Rattle.std.proofs.Math.Nat.{pow-succ'}
 use Rattle.sm_names.specs.declared.keys.BufferName.{BufferName}
 use Rattle.sm_names.specs.declared.keys.Strength.{Strength}
@@ -25,11 +25,9 @@ all_kept s id i (suc more) =
     let above : i + 1 ≡ suc i = omega arith in
     let name : BufferName = record { collection = id; index = i } in
     let on : ℕ = set_of (kept_from s id true (i + 1) (i + suc more)) in
-    let bit = next_bit s id true i (i + suc more) (omega arith) in
     let kept = ap (λ b. cond b (2 ^ i) 0 + on) (keeps_all (total s.holds name Strength.Strong == 0)) in
     let rest = subst (λ n. set_of (kept_from s id true (i + 1) n) + 2 ^ (i + 1) ≡ 2 ^ n) next (all_kept s id (i + 1) more) in
-    let double : 2 ^ (i + 1) ≡ 2 * 2 ^ i = ap (λ k. 2 ^ k) above ∙ pow-succ' 2 i in
-    omega (arith, bit, kept, rest, double)
+    omega (arith, next_bit s id true i (i + suc more) (omega arith), kept, rest, ap (λ k. 2 ^ k) above ∙ pow-succ' 2 i)
 
 pub returns-then-strong_live : goal.returns-then-strong_live
 returns-then-strong_live c =

@@ -1,8 +1,8 @@
-use Rattle.std.proofs.Common.{◌≡◌, ap, sym, ◌∙◌, Option, Some, None}
+use Rattle.std.proofs.Common.{None, Option, ap, sym, ◌∙◌, ◌≡◌}
 use Rattle.std.specs.Option.{option_map, option_or}
 use Rattle.sm_names.specs.declared.messages.Reply.{Reply}
 use Rattle.sm_names.specs.declared.outcomes.Refusal.{Refusal}
-use Rattle.sm_names.specs.Answers.{limits_met, shut_client, unknown_client}
+use Rattle.sm_names.specs.Answers.{limits_met}
 use Rattle.sm_names.specs.Words.{first_some}
 use Rattle.core_state.specs.Reads.{readings_of}
 use Rattle.core_state.proofs.answers.Order.{lines_in_order, of_named, same_limits}
@@ -13,9 +13,7 @@ pub returns-in-Some : goal.returns-in-Some
 returns-in-Some c =
     let r = readings_of c.args.core.now in
     let call = c.args.call.now in
-    let clients : option_or (unknown_client r c.args.client call) (shut_client r c.args.client call) ≡ Some
-    (Reply.Refused c.in-Some.refusal) =
-    sym c.refusal_of_clients.ensures ∙ ap (option_map (λ (x : Refusal). Reply.Refused x)) c.in-Some.is in
+    let clients = sym c.refusal_of_clients.ensures ∙ ap (option_map (λ (x : Refusal). Reply.Refused x)) c.in-Some.is in
     sym (lines_in_order c.args.core.now.limits r c.args.client call
     ∙ ap (λ (o : Option Reply). option_or (option_or o (first_some (of_named r c.args.client call)))
     (first_some (limits_met c.args.core.now.limits r call))) clients)
@@ -25,10 +23,8 @@ pub returns-in-Some-answer_of_named : goal.returns-in-Some-answer_of_named
 returns-in-Some-answer_of_named c =
     let r = readings_of c.args.core.now in
     let call = c.args.call.now in
-    let clients : option_or (unknown_client r c.args.client call) (shut_client r c.args.client call) ≡ None =
-    sym c.refusal_of_clients.ensures ∙ ap (option_map (λ (x : Refusal). Reply.Refused x)) c.in_default.is in
-    let named : first_some (of_named r c.args.client call) ≡ Some c.in-Some-answer_of_named.reply =
-    sym c.answer_of_named.ensures ∙ c.in-Some-answer_of_named.is in
+    let clients = sym c.refusal_of_clients.ensures ∙ ap (option_map (λ (x : Refusal). Reply.Refused x)) c.in_default.is in
+    let named = sym c.answer_of_named.ensures ∙ c.in-Some-answer_of_named.is in
     sym (lines_in_order c.args.core.now.limits r c.args.client call
     ∙ (λ i. option_or (option_or (clients i) (named i)) (first_some (limits_met c.args.core.now.limits r call))))
 
@@ -37,11 +33,9 @@ pub returns-in-None : goal.returns-in-None
 returns-in-None c =
     let r = readings_of c.args.core.now in
     let call = c.args.call.now in
-    let clients : option_or (unknown_client r c.args.client call) (shut_client r c.args.client call) ≡ None =
-    sym c.refusal_of_clients.ensures ∙ ap (option_map (λ (x : Refusal). Reply.Refused x)) c.in_default.is in
+    let clients = sym c.refusal_of_clients.ensures ∙ ap (option_map (λ (x : Refusal). Reply.Refused x)) c.in_default.is in
     let named : first_some (of_named r c.args.client call) ≡ None = sym c.answer_of_named.ensures ∙ c.in-None.is in
-    let limits : c.limit_met.result ≡ first_some (limits_met c.args.core.now.limits r call) =
-    c.limit_met.ensures ∙ ap first_some (sym (same_limits c.args.core.now.limits r call c.args.traits.now c.requires.law)) in
+    let limits = c.limit_met.ensures ∙ ap first_some (sym (same_limits c.args.core.now.limits r call c.args.traits.now c.requires.law)) in
     limits
     ∙ sym (lines_in_order c.args.core.now.limits r c.args.client call
     ∙ (λ i. option_or (option_or (clients i) (named i)) (first_some (limits_met c.args.core.now.limits r call))))

@@ -1,6 +1,2 @@
 -- Each goal that is proved at once by the tactic that is named.
-use Rattle.std.proofs.Common.{rules}
 use Rattle.lifetime_core.proofs.task.done_task.Goals as goal
-
-pub returns : goal.returns
-returns c = search rules

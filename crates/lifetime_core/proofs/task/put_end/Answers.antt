@@ -30,12 +30,10 @@ returns c =
     let f : Forest = c.args.forest.now in
     let t : EventTask = c.in-Some.task in
     let amid : IsAmid f t.collection t.spends = subst (CanFinish f) c.in-Some.is c.requires.task in
-    let same : SameKeys (with_place (spent_place t.spends) f) c.spend.new.forest =
-    same_placed (spent_place t.spends) f c.spend.new.forest c.spend.ensures.keys in
+    let same = same_placed (spent_place t.spends) f c.spend.new.forest c.spend.ensures.keys in
     let less = c.spend.ensures.collections in
-    let none : c.args.carried ≡ None = c.requires.one (ap is_some c.in-Some.is) in
     let place : end_placed c.args.task.now c.args.carried ≡ spent_place t.spends =
-    rw (c.in-Some.is, none) (first (spent_place t.spends)) in
+    rw (c.in-Some.is, c.requires.one (ap is_some c.in-Some.is)) (first (spent_place t.spends)) in
     record {
       collections = rw place (are_left f c.spend.new.forest t.collection t.spends amid same less);
       keys = c.spend.ensures.keys;

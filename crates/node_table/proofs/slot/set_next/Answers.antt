@@ -1,5 +1,5 @@
 use Rattle.std.proofs.Common.{◌∙◌, Some, refl}
-use Rattle.node_table.proofs.Slots.{taken-by}
+use Rattle.node_table.proofs.Births.{taken-by}
 use Rattle.node_table.proofs.slot.set_next.Goals as goal
 
 -- the entry has this link, and is else as it was

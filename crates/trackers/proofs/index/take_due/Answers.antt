@@ -1,6 +1,6 @@
 use Rattle.trackers.proofs.Common.{List, Waiter, World, ap, arith, filter, is_waiter_due, length, length-append, nat_tests, ◌++◌, ◌≡◌}
 use Rattle.std.proofs.lemmas.List.{nil_from_length}
-use Rattle.trackers.proofs.IndexLemmas.{none_passes}
+use Rattle.trackers.proofs.Walks.{none_passes}
 use Rattle.trackers.proofs.index.take_due.Goals as goal
 
 -- where none is due all stay

@@ -5,8 +5,7 @@ use Rattle.trackers.proofs.index.take_due_of.Goals as goal
 -- the list of the collection is the one without those that are due
 pub returns-else-is_empty-clause-kept : goal.returns-else-is_empty-clause-kept
 returns-else-is_empty-clause-kept g c = λ k.
-    let w : World = g.W.World.seen c.args.world.now in
-    let left : List Waiter → List Waiter = λ l. filter (λ (x : Waiter). not (is_waiter_due w x)) l in
+    let left : List Waiter → List Waiter = λ l. filter (λ (x : Waiter). not (is_waiter_due (g.W.World.seen c.args.world.now) x)) l in
     let put : waiters_of (c.get_mut.follows.lender c.take_due.new.list) k
     ≡ (if k == c.args.collection then c.take_due.new.list.items else waiters_of c.args.index.now k) = grind (arith, common_steps) in
     let was : waiters_of c.args.index.now c.args.collection ≡ c.in-Some.list.now.items = grind (arith, common_steps) in

@@ -1,7 +1,7 @@
 -- The search is partitioned, since the ids rise.
 use Rattle.trackers.proofs.Common.{Place, ap, arith, get_or_default, nat_lt, row_at, rules, sym, ◌∙◌}
 use Rattle.std.proofs.lemmas.List.Sorted.{IsPartitionedBy-ltb, IsPartitionPoint-from_clause}
-use Rattle.trackers.proofs.PlaceLemmas.{ids_rise, found_id, none_found}
+use Rattle.trackers.proofs.SlotLemmas.{found_id, ids_rise, none_found}
 use Rattle.trackers.proofs.place.find_place.Goals.{else-at-places-via-then-at-places+else-id_at-id, else-at-places-via-else-at-places}
 use Rattle.trackers.proofs.place.find_place.Goals as goal
 

@@ -2,7 +2,6 @@
 use Rattle.trackers.proofs.Common.{Bool, Fired, OnTrue, Option, Some, WaitingRow, ap, false, sym, true, ◌∙◌, ◌≡◌}
 use Rattle.std.proofs.Common.{Result, Ok, Err, is_ok, MatchResult}
 use Rattle.std.specs.Prelude.{unwrap_or}
-use Rattle.slab.specs.Slab.{get}
 use Rattle.trackers.specs.Places.{no_row}
 use Rattle.trackers.proofs.place.fire_place.Goals.{in-Some+in-Err-1, in-Some+in-Ok-1, in-None}
 use Rattle.trackers.proofs.place.fire_place.Goals as goal
@@ -22,8 +21,7 @@ module _ {A E : Type 0} (known : Option Fired) (firing : Fired) (P : E → Type 
 
 pub returns-clause-told : goal.returns-clause-told
 returns-clause-told c =
-    let row : (unwrap_or (get c.args.slots.now c.args.place.now.number) no_row).has_reader ≡ c.remove-row.result.has_reader =
-    ap (λ (o : Option WaitingRow). (unwrap_or o no_row).has_reader) c.remove-row.ensures.value in
+    let row = ap (λ (o : Option WaitingRow). (unwrap_or o no_row).has_reader) c.remove-row.ensures.value in
     elim c.match-set.branch [
       | in-Some+in-Err-1 w ↦
           let told = rw w.in-Some.is at c.fire-note.ensures.set in

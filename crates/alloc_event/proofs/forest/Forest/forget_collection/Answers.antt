@@ -2,7 +2,7 @@
 use Rattle.alloc_event.proofs.Common.{◌==◌, not, false, sym, ◌∙◌, ap, subst, arith, option_map_or, false≢true, AreUnits, Collection}
 use Rattle.alloc_event.proofs.Common.{rows_of, AreServedByGiven, place_is, none_in, collection_none, collection_at, is_left}
 use Rattle.forest_store.proofs.rows.Counted.{counted_removed}
-use Rattle.alloc_event.proofs.leaving.Emptying.{remove_row, collections_beside, kept-beside, left_none}
+use Rattle.alloc_event.proofs.leaving.Leaving.{collections_beside, kept-beside, left_none, remove_row}
 use Rattle.forest_store.proofs.tallies.Slots.{units_some}
 use Rattle.forest_steps.proofs.mid_event.GivenKept.{given_some}
 use Rattle.alloc_event.proofs.forest.Forest.forget_collection.Goals as goal

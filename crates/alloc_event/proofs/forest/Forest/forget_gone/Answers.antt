@@ -10,8 +10,8 @@ use Rattle.forest_store.specs.Calm.{IsCounted}
 use Rattle.forest_store.specs.CollectionRows.{TakesOut as Leaves}
 use Rattle.forest_store.proofs.leaving.EntryAt.{forgettable}
 use Rattle.forest_store.proofs.rows.Counted.{counted_set, dropped_all, drops_one, recounted}
-use Rattle.alloc_event.proofs.leaving.Leaving.{set_forgotten, goes, kept-without, collections-without, never_none, row_without}
-use Rattle.alloc_event.proofs.leaving.Spending.{spent_same}
+use Rattle.alloc_event.proofs.leaving.Leaving.{collections-without, goes, kept-without, never_none, row_without, set_forgotten}
+use Rattle.alloc_event.proofs.leaving.Leaving.{spent_same}
 use Rattle.forest_store.proofs.tallies.Slots.{units_without}
 use Rattle.forest_store.proofs.tables.TakingOut.{taken}
 use Rattle.forest_steps.proofs.mid_event.GivenKept.{given_filtered}
@@ -97,8 +97,7 @@ unreachable-requires c =
     let one = some_is (node_at c.self.inside.store.nodes.table c.args.key)
     (ap is_some (sym (node_is _ _ c.self.invariant.kept _))
     ∙ ap (λ f. is_some (forest_node f c.args.key)) c.self.view_is ∙ c.requires.there) in
-    let found : forest_node c.args.self.now c.args.key ≡ Some one.0 = ap (λ f. forest_node f c.args.key) (sym c.self.view_is)
-    ∙ node_is _ _ c.self.invariant.kept c.args.key ∙ one.1 in
+    let found = ap (λ f. forest_node f c.args.key) (sym c.self.view_is) ∙ node_is _ _ c.self.invariant.kept c.args.key ∙ one.1 in
     let own : one.0.collection ≡ c.args.id = eqb-true _ _ (and_right _ _
     (ap (λ o. option_map_or (λ (n : Node). n.gone && n.collection == c.args.id) o false) (sym found) ∙ c.requires.gone)) in
     never_none c.self.inside.store.entries.items c.args.key c.self.invariant.kept one.1

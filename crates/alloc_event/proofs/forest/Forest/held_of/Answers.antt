@@ -1,5 +1,5 @@
 -- The entry with the id has the buffers.
-use Rattle.alloc_event.proofs.Common.{◌≡◌, [], sym, ◌∙◌, ap, option_map, option_map_or, Collection, row_of, row_found, collection_none}
+use Rattle.alloc_event.proofs.Common.{Collection, [], ap, collection_none, option_map, option_map_or, row_found, row_of, sym, ◌∙◌}
 use Rattle.forest_store.specs.CollectionRows.{collection_in}
 use Rattle.forest_store.proofs.rows.Showing.{collection_is}
 use Rattle.alloc_event.proofs.forest.Forest.held_of.Goals as goal

@@ -4,7 +4,7 @@ use Rattle.alloc_event.proofs.Common.{false≢true, NodeKey, option_map_or, Tabl
 use Rattle.alloc_event.proofs.Common.{IsStored, CollectionRow, are_filed, forest_of, rows_of, is_unkept, Forest}
 use Rattle.alloc_event.proofs.Common.{AreServedByGiven, node_is, Writes, table_with_node, on_collections, with_end}
 use Rattle.forest_store.specs.Forest.{node_at as forest_node}
-use Rattle.alloc_event.proofs.leaving.Ends.{ends-counted, ends-kept, ends-shown}
+use Rattle.alloc_event.proofs.leaving.Leaving.{ends-counted, ends-kept, ends-shown}
 use Rattle.forest_store.proofs.tallies.Slots.{units_with}
 use Rattle.sm_names.proofs.SamenessLaws.{some_is}
 use Rattle.forest_steps.proofs.mid_event.GivenKept.{given_mapped}

@@ -1,9 +1,5 @@
-use Rattle.std.proofs.Common.{ℕ, ◌∙◌, ap, arith, subst, sym}
-use Rattle.buffer_holds.specs.declared.names.Owner.{Owner}
-use Rattle.buffer_holds.specs.Counts.{Counts, has_handle_room, total}
-use Rattle.buffer_holds.specs.Gains.{Gains, HasRoomIn}
-use Rattle.buffer_holds.specs.Kinds.{hold_of, kind_of}
-use Rattle.buffer_holds.specs.Pages.{owner_of, part_of, same_part, slot_of}
+use Rattle.buffer_holds.proofs.Common.{Counts, Gains, HasRoomIn, Owner, ap, arith, has_handle_room, hold_of, kind_of, owner_of, part_of}
+use Rattle.buffer_holds.proofs.Common.{same_part, slot_of, subst, sym, total, ℕ, ◌∙◌}
 use Rattle.buffer_holds.proofs.Gaining.{fewer_one, sets_gained}
 use Rattle.buffer_holds.proofs.PageNames.{same_part-refl}
 use Rattle.buffer_holds.proofs.Runs.{one_is}

@@ -1,6 +1,5 @@
-use Rattle.std.proofs.Common.{◌<◌, ◌^◌, ◌∙◌, ap, arith, refl, rules, subst, sym, true}
-use Rattle.std.specs.Int.{bit_at}
-use Rattle.buffer_holds.specs.Changes.{AddsSet}
+use Rattle.buffer_holds.proofs.Common.{AddsSet, ap, arith, bit_at, refl, subst, sym, true, ◌<◌, ◌^◌, ◌∙◌}
+use Rattle.std.proofs.Common.{rules}
 use Rattle.buffer_holds.proofs.SetLemmas.{adds_by, adds_none, empty_below, fewer_by, room_by, there_by}
 use Rattle.buffer_holds.proofs.holds.Holds.add_set.Goals as goal
 

@@ -1,6 +1,5 @@
-use Rattle.std.proofs.Common.{ℕ, ◌≡◌, ◌+◌, ◌<◌, ◌≤◌, ◌∙◌, ap, arith, Bool, true, false, refl, if◌then◌else◌, is_some}
-use Rattle.buffer_holds.specs.Pages.{count_in, is_in}
-use Rattle.buffer_holds.specs.Sums.{sum_in, Agrees}
+use Rattle.buffer_holds.proofs.Common.{Agrees, Bool, ap, arith, count_in, false, if◌then◌else◌, is_in, is_some, refl, sum_in, true, ℕ}
+use Rattle.buffer_holds.proofs.Common.{◌+◌, ◌<◌, ◌∙◌, ◌≡◌, ◌≤◌}
 use Rattle.buffer_holds.proofs.Gaining.{agrees_gained, fewer_in, gains_after, room_has_page, same_seen, up_to_alike}
 use Rattle.buffer_holds.proofs.Sound.{held-le-total, up_to_after}
 use Rattle.buffer_holds.proofs.Written.{page_found}

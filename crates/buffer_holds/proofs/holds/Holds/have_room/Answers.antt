@@ -1,8 +1,4 @@
-use Rattle.std.proofs.Common.{◌<◌, ap, arith}
-use Rattle.std.proofs.lemmas.Bool.{ltb-true}
-use Rattle.buffer_holds.specs.Counts.{Counts, total}
-use Rattle.buffer_holds.specs.Kinds.{kind_of}
-use Rattle.buffer_holds.specs.Pages.{part_of, slot_of}
+use Rattle.buffer_holds.proofs.Common.{Counts, ap, arith, kind_of, ltb-true, part_of, slot_of, total, ◌<◌}
 use Rattle.buffer_holds.proofs.Seen.{total_is}
 use Rattle.buffer_holds.proofs.holds.Holds.have_room.Goals as goal
 

@@ -1,7 +1,5 @@
-use Rattle.std.proofs.Common.{◌≡◌, ◌∙◌, ◌==◌, ◌&&◌, Bool, true, false, not, ap, refl, sym}
+use Rattle.buffer_holds.proofs.Common.{Bool, Strong, Weak, ap, false, not, refl, sym, total, true, ◌&&◌, ◌==◌, ◌∙◌, ◌≡◌}
 use Rattle.sm_names.specs.Handles.{is_home}
-use Rattle.sm_names.specs.declared.keys.Strength.TheVariants.{Strong, Weak}
-use Rattle.buffer_holds.specs.Counts.{total}
 use Rattle.buffer_holds.proofs.holds.Holds.home.Goals as goal
 
 -- it is not home with a strong node

@@ -1,9 +1,4 @@
-use Rattle.std.proofs.Common.{◌∙◌, ap, sym}
-use Rattle.std.proofs.lemmas.Bool.{ltb-true}
-use Rattle.buffer_holds.specs.Counts.{total}
-use Rattle.buffer_holds.specs.Kinds.{kind_of}
-use Rattle.buffer_holds.specs.Pages.{count_in, part_of, slot_of}
-use Rattle.buffer_holds.specs.Sums.{sum_of}
+use Rattle.buffer_holds.proofs.Common.{ap, count_in, kind_of, ltb-true, part_of, slot_of, sum_of, sym, total, ◌∙◌}
 use Rattle.buffer_holds.proofs.Seen.{total_is}
 use Rattle.buffer_holds.proofs.holds.Holds.is_unopened.Goals as goal
 

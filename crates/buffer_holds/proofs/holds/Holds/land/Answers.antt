@@ -1,14 +1,9 @@
-use Rattle.std.proofs.Common.{ℕ, ◌≡◌, ◌==◌, ◌+◌, ◌-◌, ◌<◌, ◌≤◌, ap, arith, refl, subst, if◌then◌else◌, is_some}
-use Rattle.std.proofs.Common.{Bool, Some, IsSome, false, true, ⊎_elim}
-use Rattle.std.proofs.lemmas.Bool.{cases_lt, false≢true}
-use Rattle.std.specs.Map.{lookup}
-use Rattle.buffer_holds.specs.declared.names.Owner.{Owner}
-use Rattle.buffer_holds.specs.declared.names.Part.{Part}
-use Rattle.buffer_holds.specs.Counts.{Counts}
-use Rattle.buffer_holds.specs.Kinds.{hold_of, kind_of}
-use Rattle.buffer_holds.specs.Pages.{cell_at, count_in, owner_of, part_of, raised, same_owner, slot_of}
-use Rattle.buffer_holds.specs.Sums.{page_in, sum_in, Agrees, PageBecomes, SumBecomes}
-use Rattle.buffer_holds.proofs.Moves.{agrees_moved, alike_itself, itself_at, moving-has-sum, moving-le-sent, page_mine, page_told, sets_moved, still_lies, sum_mine, sum_told}
+use Rattle.buffer_holds.proofs.Common.{Agrees, Bool, Counts, IsSome, Owner, PageBecomes, Part, Some, SumBecomes, ap, arith, cases_lt}
+use Rattle.buffer_holds.proofs.Common.{cell_at, count_in, false, false≢true, hold_of, if◌then◌else◌, is_some, kind_of, lookup, owner_of}
+use Rattle.buffer_holds.proofs.Common.{page_in, part_of, raised, refl, same_owner, slot_of, subst, sum_in, true, ℕ, ⊎_elim, ◌+◌, ◌-◌, ◌<◌}
+use Rattle.buffer_holds.proofs.Common.{◌==◌, ◌≡◌, ◌≤◌}
+use Rattle.buffer_holds.proofs.Moves.{agrees_moved, alike_itself, itself_at, moving-has-sum, moving-le-sent, page_mine, page_told}
+use Rattle.buffer_holds.proofs.Moves.{sets_moved, still_lies, sum_mine, sum_told}
 use Rattle.buffer_holds.proofs.Gaining.{up_to_alike}
 use Rattle.buffer_holds.proofs.Runs.{one_is, raised_one}
 use Rattle.buffer_holds.proofs.Sound.{held-le-total, page-has-sum, sum-is-known, up_to_after}

@@ -1,11 +1,6 @@
-use Rattle.std.proofs.Common.{ℕ, ◌≡◌, ◌==◌, ◌+◌, ◌-◌, ◌<◌, ◌≤◌, ◌↔◌, arith, refl, subst, if◌then◌else◌}
-use Rattle.std.proofs.Common.{Some, IsSome, IsTrue, Bool, true, false}
-use Rattle.std.proofs.lemmas.Bool.{false≢true}
-use Rattle.buffer_holds.specs.declared.names.Part.{Part}
-use Rattle.buffer_holds.specs.Counts.{of}
-use Rattle.buffer_holds.specs.Kinds.{hold_of, kind_of}
-use Rattle.buffer_holds.specs.Pages.{cell_at, count_in, owner_of, part_of, slot_of}
-use Rattle.buffer_holds.specs.Sums.{page_in, sum_in, Agrees, PageBecomes, SumBecomes}
+use Rattle.buffer_holds.proofs.Common.{Agrees, Bool, IsSome, IsTrue, PageBecomes, Part, Some, SumBecomes, arith, cell_at, count_in, false}
+use Rattle.buffer_holds.proofs.Common.{false≢true, hold_of, if◌then◌else◌, kind_of, of, owner_of, page_in, part_of, refl, slot_of, subst}
+use Rattle.buffer_holds.proofs.Common.{sum_in, true, ℕ, ◌+◌, ◌-◌, ◌<◌, ◌==◌, ◌↔◌, ◌≡◌, ◌≤◌}
 use Rattle.buffer_holds.proofs.Moves.{agrees_moved, alike_itself, count_seen, itself_at, page_mine, sets_moved, sum_mine, sum_told}
 use Rattle.buffer_holds.proofs.Sound.{count-has-page, held-le-total, page-has-sum, sum-is-known, up_to_after}
 use Rattle.buffer_holds.proofs.holds.Holds.lift.Goals.{After-lower, After-lift}

@@ -1,7 +1,4 @@
-use Rattle.std.proofs.Common.{◌∙◌, ap, sym}
-use Rattle.buffer_holds.specs.Counts.{moving_count}
-use Rattle.buffer_holds.specs.Pages.{count_in}
-use Rattle.buffer_holds.specs.Sums.{sum_in}
+use Rattle.buffer_holds.proofs.Common.{ap, count_in, moving_count, sum_in, sym, ◌∙◌}
 use Rattle.buffer_holds.proofs.Seen.{moving_is}
 use Rattle.buffer_holds.proofs.holds.Holds.moving.Goals as goal
 

@@ -1,8 +1,4 @@
-use Rattle.std.proofs.Common.{◌∙◌, ap, sym, unwrap_or}
-use Rattle.buffer_holds.specs.Counts.{of}
-use Rattle.buffer_holds.specs.Kinds.{hold_of}
-use Rattle.buffer_holds.specs.Pages.{count_in}
-use Rattle.buffer_holds.specs.Sums.{page_in}
+use Rattle.buffer_holds.proofs.Common.{ap, count_in, hold_of, of, page_in, sym, unwrap_or, ◌∙◌}
 use Rattle.buffer_holds.proofs.Seen.{row_is}
 use Rattle.buffer_holds.proofs.holds.Holds.of.Goals as goal
 

@@ -1,12 +1,8 @@
-use Rattle.std.proofs.Common.{ℕ, ◌≡◌, ◌==◌, ◌-◌, ◌<◌, ◌≤◌, ◌↔◌, ap, arith, refl, subst, if◌then◌else◌}
-use Rattle.std.proofs.Common.{Some, IsSome, IsTrue, Bool, true, false}
-use Rattle.std.proofs.lemmas.Bool.{false≢true}
-use Rattle.buffer_holds.specs.declared.names.Part.{Part}
-use Rattle.buffer_holds.specs.Counts.{Counts, of}
-use Rattle.buffer_holds.specs.Kinds.{hold_of, kind_of}
-use Rattle.buffer_holds.specs.Pages.{cell_at, count_in, owner_of, part_of, slot_of}
-use Rattle.buffer_holds.specs.Sums.{page_in, sum_in, Agrees, PageBecomes, SumBecomes}
-use Rattle.buffer_holds.proofs.Moves.{agrees_moved, alike_itself, count_seen, itself_at, page_mine, sets_moved, sum_mine, sum_told, total_seen}
+use Rattle.buffer_holds.proofs.Common.{Agrees, Bool, Counts, IsSome, IsTrue, PageBecomes, Part, Some, SumBecomes, ap, arith, cell_at}
+use Rattle.buffer_holds.proofs.Common.{count_in, false, false≢true, hold_of, if◌then◌else◌, kind_of, of, owner_of, page_in, part_of, refl}
+use Rattle.buffer_holds.proofs.Common.{slot_of, subst, sum_in, true, ℕ, ◌-◌, ◌<◌, ◌==◌, ◌↔◌, ◌≡◌, ◌≤◌}
+use Rattle.buffer_holds.proofs.Moves.{agrees_moved, alike_itself, count_seen, itself_at, page_mine, sets_moved, sum_mine, sum_told}
+use Rattle.buffer_holds.proofs.Moves.{total_seen}
 use Rattle.buffer_holds.proofs.KindLemmas.{same_kind-refl}
 use Rattle.buffer_holds.proofs.Sound.{count-has-page, held-le-total, page-has-sum, sum-is-known, up_to_after}
 use Rattle.buffer_holds.proofs.holds.Holds.sub.Goals.{After-lower, After-close}

@@ -1,9 +1,5 @@
-use Rattle.std.proofs.Common.{◌≡◌, ◌==◌, ap, arith, is_some, subst, sym, if◌then◌else◌, true, IsSome, None}
-use Rattle.std.specs.Map.{lookup}
-use Rattle.buffer_holds.specs.Changes.{Tidies}
-use Rattle.buffer_holds.specs.Kinds.{hold_of, kind_of}
-use Rattle.buffer_holds.specs.Pages.{cell_at, owner_of, same_owner, slot_of, tidied}
-use Rattle.buffer_holds.specs.Sums.{page_in, Agrees, PageBecomes}
+use Rattle.buffer_holds.proofs.Common.{Agrees, IsSome, None, PageBecomes, Tidies, ap, arith, cell_at, hold_of, if◌then◌else◌, is_some}
+use Rattle.buffer_holds.proofs.Common.{kind_of, lookup, owner_of, page_in, same_owner, slot_of, subst, sym, tidied, true, ◌==◌, ◌≡◌}
 use Rattle.buffer_holds.proofs.Moves.{agrees_tidied, alike_itself, page_mine, tidies_after, tidies_none}
 use Rattle.buffer_holds.proofs.Seen.{seen}
 use Rattle.buffer_holds.proofs.Written.{page_found}

@@ -1,10 +1,5 @@
-use Rattle.std.proofs.Common.{◌∙◌, ap, arith, subst, sym}
-use Rattle.std.specs.List.{IsDistinct}
-use Rattle.std.specs.Map.{keys_of}
-use Rattle.buffer_holds.specs.Counts.{Counts, total}
-use Rattle.buffer_holds.specs.Kinds.{same_hold}
-use Rattle.buffer_holds.specs.Pages.{count_in, hold_at, page_size, same_owner}
-use Rattle.buffer_holds.specs.Sums.{sum_in}
+use Rattle.buffer_holds.proofs.Common.{Counts, IsDistinct, ap, arith, count_in, hold_at, keys_of, page_size, same_hold, same_owner, subst}
+use Rattle.buffer_holds.proofs.Common.{sum_in, sym, total, ◌∙◌}
 use Rattle.buffer_holds.proofs.PageLemmas.{distinct_flat}
 use Rattle.buffer_holds.proofs.PageNames.{hold_law, same_owner-one, same_owner-refl}
 use Rattle.buffer_holds.proofs.Seen.{total_is}

@@ -1,7 +1,4 @@
-use Rattle.std.proofs.Common.{ℕ, ◌≡◌, ◌∙◌, [], refl}
-use Rattle.std.specs.List.{IsDistinct}
-use Rattle.buffer_holds.specs.Pages.{flat}
-use Rattle.buffer_holds.specs.Sums.{Agrees}
+use Rattle.buffer_holds.proofs.Common.{Agrees, IsDistinct, [], flat, refl, ℕ, ◌∙◌, ◌≡◌}
 use Rattle.buffer_holds.proofs.Seen.{seen}
 use Rattle.buffer_holds.proofs.holds.Holds.with_seed.Goals as goal
 

@@ -1,6 +1,4 @@
-use Rattle.std.proofs.Common.{◌≡◌, ◌∙◌, ap, subst, sym, None, get_or}
-use Rattle.buffer_holds.specs.declared.page.Cells.{Cells}
-use Rattle.buffer_holds.specs.Pages.{count_in, masked, IsMasked, SetsCell}
+use Rattle.buffer_holds.proofs.Common.{Cells, IsMasked, None, SetsCell, ap, count_in, masked, subst, sym, ◌∙◌}
 use Rattle.buffer_holds.proofs.Masks.{cleared_masks, cleared_sets, count_masked, without_bit}
 use Rattle.buffer_holds.proofs.page.Page.clear.Goals as goal
 

@@ -1,6 +1,4 @@
-use Rattle.std.proofs.Common.{◌∙◌, ap, sym, subst, unwrap_or}
-use Rattle.buffer_holds.specs.declared.page.Cells.{Cells}
-use Rattle.buffer_holds.specs.Pages.{count_in, masked, IsMasked}
+use Rattle.buffer_holds.proofs.Common.{Cells, IsMasked, ap, count_in, masked, subst, sym, ◌∙◌}
 use Rattle.buffer_holds.proofs.Masks.{count_masked}
 use Rattle.buffer_holds.proofs.page.Page.get.Goals as goal
 

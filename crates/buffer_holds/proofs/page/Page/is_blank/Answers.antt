@@ -1,7 +1,4 @@
-use Rattle.std.proofs.Common.{◌∙◌, ap, subst, sym}
-use Rattle.std.proofs.lemmas.Bool.{eqb-true}
-use Rattle.buffer_holds.specs.declared.page.Cells.{Cells}
-use Rattle.buffer_holds.specs.Pages.{masked, IsBlank}
+use Rattle.buffer_holds.proofs.Common.{Cells, IsBlank, ap, eqb-true, masked, subst, ◌∙◌}
 use Rattle.buffer_holds.proofs.Masks.{blank_masked}
 use Rattle.buffer_holds.proofs.page.Page.is_blank.Goals as goal
 

@@ -1,8 +1,5 @@
-use Rattle.std.proofs.Common.{ℕ, zero, suc, ◌≡◌, ◌<◌, ◌∙◌, ◌==◌, ap, arith, refl, sym, subst, get_or, is_some}
-use Rattle.std.proofs.lemmas.Nat.Bits.{bit_at-lt}
-use Rattle.std.specs.Int.{bit_at}
-use Rattle.buffer_holds.specs.declared.page.Cells.{Cells}
-use Rattle.buffer_holds.specs.Pages.{cell_at, masked, IsMasked}
+use Rattle.buffer_holds.proofs.Common.{Cells, IsMasked, ap, arith, bit_at, bit_at-lt, cell_at, get_or, is_some, masked, refl, subst, suc}
+use Rattle.buffer_holds.proofs.Common.{sym, zero, ℕ, ◌<◌, ◌==◌, ◌∙◌, ◌≡◌}
 use Rattle.buffer_holds.proofs.Masks.{cell_of, cell_within}
 use Rattle.buffer_holds.proofs.page.Page.is_full.Goals as goal
 

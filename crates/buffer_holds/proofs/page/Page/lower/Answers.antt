@@ -1,7 +1,5 @@
-use Rattle.std.proofs.Common.{◌≡◌, ◌-◌, ◌<◌, ◌∙◌, ap, arith, subst, sym, Some, get_or, set}
-use Rattle.std.specs.Int.{bit_at}
-use Rattle.buffer_holds.specs.declared.page.Cells.{Cells}
-use Rattle.buffer_holds.specs.Pages.{count_in, masked, IsMasked, SetsCell}
+use Rattle.buffer_holds.proofs.Common.{Cells, IsMasked, SetsCell, Some, ap, arith, bit_at, count_in, get_or, masked, set, subst, sym, ◌-◌}
+use Rattle.buffer_holds.proofs.Common.{◌∙◌, ◌≡◌}
 use Rattle.buffer_holds.proofs.Masks.{bit_there, count_masked, lowered_masks, lowered_sets}
 use Rattle.buffer_holds.proofs.page.Page.lower.Goals.{After-deref_mut}
 use Rattle.buffer_holds.proofs.page.Page.lower.Goals as goal

@@ -1,6 +1,4 @@
-use Rattle.std.proofs.Common.{refl, replicate, subst, sym}
-use Rattle.buffer_holds.specs.declared.page.Cells.{Cells}
-use Rattle.buffer_holds.specs.Pages.{masked, IsBlank, IsMasked}
+use Rattle.buffer_holds.proofs.Common.{Cells, IsBlank, IsMasked, masked, refl, replicate, subst, sym}
 use Rattle.buffer_holds.proofs.Masks.{blank_masked, none_in}
 use Rattle.buffer_holds.proofs.page.Page.new.Goals as goal
 

@@ -1,8 +1,7 @@
-use Rattle.std.proofs.Common.{ℕ, ◌≡◌, ◌+◌, ◌<◌, ◌≤◌, ◌^◌, ◌∙◌, ap, arith, if◌then◌else◌, subst, sym, get_or}
-use Rattle.buffer_holds.specs.declared.page.Cells.{Cells}
-use Rattle.buffer_holds.specs.Pages.{count_in, is_in, masked, IsMasked, RaisesSet}
-use Rattle.buffer_holds.proofs.Masks.{count_masked, raised_masks, raised_sets, with_set}
-use Rattle.buffer_holds.proofs.page.Page.raise.Goals.{After-deref_mut, After-deref_mut-2, After-raise_counts}
+use Rattle.buffer_holds.proofs.Common.{Cells, IsMasked, RaisesSet, ap, arith, count_in, get_or, if◌then◌else◌, is_in, masked, subst, sym}
+use Rattle.buffer_holds.proofs.Common.{ℕ, ◌+◌, ◌∙◌, ◌≡◌}
+use Rattle.buffer_holds.proofs.Masks.{count_masked, raised_masks, raised_sets}
+use Rattle.buffer_holds.proofs.page.Page.raise.Goals.{After-deref_mut, After-raise_counts}
 use Rattle.buffer_holds.proofs.page.Page.raise.Goals as goal
 
 -- the fields are a page's

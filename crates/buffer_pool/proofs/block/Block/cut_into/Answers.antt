@@ -1,6 +1,5 @@
 -- Those from the place on move.
 use Rattle.buffer_pool.proofs.Common.{All-drop, Interval, [], ap, arith, drop, length-drop, ◌++◌, ◌∙◌, ◌≡◌, ◌≤◌}
-use Rattle.std.specs.Prelude.{All}
 use Rattle.std.proofs.lemmas.List.{take_rest}
 use Rattle.buffer_pool.proofs.block.Block.cut_into.Goals.{After-truncate}
 use Rattle.buffer_pool.proofs.block.Block.cut_into.Goals as goal
@@ -13,8 +12,7 @@ moved c =
 
 pub invariant_of-other : goal.invariant_of-other
 invariant_of-other c =
-    let all : All (λ (h : Interval). h.pages ≤ c.self.inside.greatest) (drop c.args.at c.self.inside.cells.items) =
-    All-drop (λ (h : Interval). h.pages ≤ c.self.inside.greatest) c.args.at c.self.inside.cells.items c.self.invariant.bound in
+    let all = All-drop (λ (h : Interval). h.pages ≤ c.self.inside.greatest) c.args.at c.self.inside.cells.items c.self.invariant.bound in
     record {
       has_room = omega (arith, c.other.invariant.has_room, c.extend_from_slice.ensures.capacity);
       few = rw (moved c) (omega (arith, length-drop c.args.at c.self.inside.cells.items, c.self.invariant.few));

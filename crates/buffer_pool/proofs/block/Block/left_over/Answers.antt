@@ -1,6 +1,6 @@
 -- None has room where all have fewer pages, and the other way round.
 use Rattle.std.proofs.Common.{arith}
-use Rattle.buffer_pool.proofs.Taking.{rooms-few, few-rooms}
+use Rattle.buffer_pool.proofs.Taking.{rooms-few}
 use Rattle.buffer_pool.proofs.block.Block.left_over.Goals as goal
 
 pub returns-then-self-pages_each-clause-left : goal.returns-then-self-pages_each-clause-left

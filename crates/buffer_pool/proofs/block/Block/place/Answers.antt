@@ -1,6 +1,6 @@
 -- The edges rise, so what is before a smaller one is smaller.
 use Rattle.buffer_pool.proofs.Common.{arith, common_steps, end_of}
-use Rattle.buffer_pool.proofs.Searches.{search_upper, search_ends}
+use Rattle.buffer_pool.proofs.Spaces.{search_ends, search_upper}
 use Rattle.buffer_pool.proofs.block.Block.place.Goals as goal
 
 pub loop-low-preserved-then-end-page : goal.loop-low-preserved-then-end-page

@@ -1,6 +1,6 @@
 -- The place lies between the two ends of the search.
 use Rattle.buffer_pool.proofs.Common.{end_of, ◌-◌}
-use Rattle.buffer_pool.proofs.Searches.{IsSearch}
+use Rattle.buffer_pool.proofs.Spaces.{IsSearch}
 use Rattle.buffer_pool.proofs.block.Block.place.Given as goal
 
 abbrev pub invariant-loop-low : goal.invariant-loop-low

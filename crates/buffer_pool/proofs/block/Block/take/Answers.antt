@@ -1,11 +1,10 @@
 -- Each hole gives as many buffers as have room, and what stays of it moves to the front.
 use Rattle.buffer_pool.proofs.Common.{IsSane, MAX_PAGES, add-mul, ap, append-nil, append_assoc, arith, drop, drop_all, length}
-use Rattle.buffer_pool.proofs.Common.{length-take-le, looks_in, mul-le-mul_left, refl, rules, run_starts, starts_in, sym, take, ℕ, ◌*◌}
-use Rattle.buffer_pool.proofs.Common.{◌++◌, ◌+◌, ◌<◌, ◌∙◌, ◌≡◌, ◌≤◌}
+use Rattle.buffer_pool.proofs.Common.{length-take-le, looks_in, mul-le-mul_left, refl, rules, run_starts, starts_in, sym, take, ◌*◌, ◌++◌}
+use Rattle.buffer_pool.proofs.Common.{◌+◌, ◌<◌, ◌∙◌, ◌≡◌, ◌≤◌}
 use Rattle.std.proofs.lemmas.List.{length-append}
-use Rattle.buffer_pool.proofs.HeldRuns.{length-run}
-use Rattle.buffer_pool.proofs.Taking.{IsNext, rooms-few, walked_start, walked_kept, walked_gone, next_here, hole-sane, taken_all}
-use Rattle.buffer_pool.proofs.Taking.{looks-more}
+use Rattle.buffer_pool.proofs.Taking.{IsNext, hole-sane, length-run, looks-more, next_here, rooms-few, taken_all, walked_gone}
+use Rattle.buffer_pool.proofs.Taking.{walked_kept, walked_start}
 use Rattle.buffer_pool.proofs.block.Block.take.Goals.{After-min-more, then-pages-hole, else-pages-hole, then-loop-count-test+else-at-len}
 use Rattle.buffer_pool.proofs.block.Block.take.Goals.{else-loop-count-test}
 use Rattle.buffer_pool.proofs.block.Block.take.Goals as goal
@@ -68,8 +67,7 @@ loop-count-preserved c =
     let size : length (take c.loop-count.kept c.loop-count.self-inside.cells.items) ≡ c.loop-count.kept =
     length-take-le c.loop-count.kept c.loop-count.self-inside.cells.items
     (omega (arith, c.loop-count.invariant.walk.order, c.loop-count.invariant.walk.within)) in
-    let few : c.min-more.result * (c.args.before + c.loop-count.kept + 1) ≤ c.min-more.result * MAX_PAGES =
-    mul-le-mul_left c.min-more.result (kept m) in
+    let few = mul-le-mul_left c.min-more.result (kept m) in
     record {
       walk = elim c.if-pages-hole.branch [
         | then-pages-hole w ↦

@@ -1,6 +1,6 @@
 -- A spare block is used.
 use Rattle.std.proofs.Common.{◌<◌, ◌-◌, arith, length}
-use Rattle.buffer_pool.proofs.Blocking.{blocks-begun}
+use Rattle.buffer_pool.proofs.Filling.{blocks-begun}
 use Rattle.buffer_pool.proofs.blocks.Blocks.begin.Goals as goal
 
 pub invariant_of-self : goal.invariant_of-self

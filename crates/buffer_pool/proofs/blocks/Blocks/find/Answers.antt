@@ -1,7 +1,7 @@
 -- The place in the block is the place of all.
 use Rattle.buffer_pool.proofs.Common.{Interval, IsNonDecreasingBy, [], all_in, ap, arith, common_steps, end_of, get_or, get_or_read}
-use Rattle.buffer_pool.proofs.Common.{length, nat_lt, prefix_len, prefix_len-le-length, subst, sym, take, ◌+◌, ◌<◌, ◌∙◌, ◌≡◌, ◌≤◌}
-use Rattle.buffer_pool.proofs.Finding.{rises-in, found-in}
+use Rattle.buffer_pool.proofs.Common.{length, nat_lt, prefix_len, prefix_len-le-length, subst, sym, take, ◌+◌, ◌<◌, ◌∙◌, ◌≡◌}
+use Rattle.buffer_pool.proofs.Joins.{found-in, rises-in}
 use Rattle.buffer_pool.proofs.blocks.Blocks.find.Goals.{After-index}
 use Rattle.buffer_pool.proofs.blocks.Blocks.find.Goals as goal
 
@@ -21,10 +21,8 @@ pub returns-then-block-len-clause-within : goal.returns-then-block-len-clause-wi
 returns-then-block-len-clause-within c =
     let m = (goal.at.returns-then-block-len-clause-within c).After-index in
     let p = λ (i : Interval). nat_lt (end_of i) c.args.page in
-    let short : prefix_len p c.index.result.now ≤ length c.index.result.now = prefix_len-le-length p c.index.result.now in
     let same : length c.index.result.now ≡ length (get_or c.self.inside.used.items c.block_of-block.result []) = ap length (here m) in
-    let lt = there m in
-    rw (← c.self.view_is) (omega (arith, lt), omega (arith, c.place-offset.ensures, short, same))
+    rw (← c.self.view_is) (omega (arith, there m), omega (arith, c.place-offset.ensures, prefix_len-le-length p c.index.result.now, same))
 
 pub returns-then-block-len-clause-place : goal.returns-then-block-len-clause-place
 returns-then-block-len-clause-place c =

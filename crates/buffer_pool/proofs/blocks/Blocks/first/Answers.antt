@@ -2,7 +2,7 @@
 use Rattle.buffer_pool.proofs.Common.{MAX_PAGES, [], all_in, ap, arith, get_or, get_or_read, length, rooms, rules, sym, ◌+◌, ◌<◌, ◌∙◌}
 use Rattle.buffer_pool.proofs.Common.{◌≡◌, ◌≤◌}
 use Rattle.buffer_pool.proofs.Joins.{within-all}
-use Rattle.buffer_pool.proofs.Passing.{passed-next}
+use Rattle.buffer_pool.proofs.Filling.{passed-next}
 use Rattle.buffer_pool.proofs.blocks.Blocks.first.Goals.{After-len-before}
 use Rattle.buffer_pool.proofs.blocks.Blocks.first.Goals as goal
 

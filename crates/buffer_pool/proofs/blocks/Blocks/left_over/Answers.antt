@@ -1,7 +1,7 @@
 -- The room of each block is subtracted from the count, and the blocks stay as they are.
-use Rattle.buffer_pool.proofs.Common.{[], ap, arith, get_or, get_or_read, length, refl, rooms, set, sym, ◌+◌, ◌-◌, ◌<◌, ◌∙◌, ◌≡◌}
+use Rattle.buffer_pool.proofs.Common.{[], ap, arith, get_or, get_or_read, length, refl, rooms, set, ◌-◌, ◌<◌, ◌∙◌, ◌≡◌}
 use Rattle.std.proofs.lemmas.List.{set-get_or}
-use Rattle.buffer_pool.proofs.Passing.{rooms-drop, rooms-rest}
+use Rattle.buffer_pool.proofs.Filling.{rooms-drop, rooms-rest}
 use Rattle.buffer_pool.proofs.blocks.Blocks.left_over.Goals.{After-index_mut}
 use Rattle.buffer_pool.proofs.blocks.Blocks.left_over.Goals as goal
 

@@ -1,5 +1,5 @@
 -- The rest of the count after all blocks is the rest of the present count after the remaining blocks.
-use Rattle.buffer_pool.proofs.Common.{AreBlocks, all_in, drop, length, rooms, vec_capacity, ◌-◌, ◌≡◌, ◌≤◌}
+use Rattle.buffer_pool.proofs.Common.{AreBlocks, all_in, drop, length, rooms, vec_capacity, ◌-◌, ◌≡◌}
 use Rattle.buffer_pool.proofs.blocks.Blocks.left_over.Given as goal
 
 abbrev pub invariant-loop-left : goal.invariant-loop-left

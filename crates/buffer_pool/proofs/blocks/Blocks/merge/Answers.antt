@@ -3,7 +3,7 @@ use Rattle.buffer_pool.proofs.Common.{[], ap, arith, common_steps, get_or, get_o
 use Rattle.buffer_pool.proofs.Common.{◌<◌, ◌∙◌, ◌≡◌}
 use Rattle.std.proofs.Common.{length-append}
 use Rattle.std.proofs.lemmas.List.Edits.{get_or-remove_below}
-use Rattle.buffer_pool.proofs.Blocking.{blocks-gone, blocks-set}
+use Rattle.buffer_pool.proofs.Filling.{blocks-gone, blocks-set}
 use Rattle.buffer_pool.proofs.blocks.Blocks.merge.Goals.{After-push_reserved}
 use Rattle.buffer_pool.proofs.blocks.Blocks.merge.Goals as goal
 
@@ -25,8 +25,7 @@ pub invariant_of-self : goal.invariant_of-self
 invariant_of-self c =
     let there = rw (← c.self.view_is) at c.requires.there in
     let some : 0 < length (get_or c.self.inside.used.items c.args.at []) = c.self.invariant.some c.args.at [] (omega arith) in
-    let whole : length c.take_in.new.self ≡ length c.index_mut.result.now + length c.remove-block.result =
-    ap length c.take_in.ensures.whole ∙ length-append c.index_mut.result.now c.remove-block.result in
+    let whole = ap length c.take_in.ensures.whole ∙ length-append c.index_mut.result.now c.remove-block.result in
     let same : length c.index_mut.result.now ≡ length (get_or c.self.inside.used.items c.args.at []) = ap length (first c) in
     blocks-set c.remove-block.new.self.items c.push_reserved.new.self.items c.args.at c.take_in.new.self _ _ (omega arith)
     (blocks-gone c.self.inside.used.items c.self.inside.spare.items (c.args.at + 1) c.take_in.new.other _ _ c.self.inside.used.cap

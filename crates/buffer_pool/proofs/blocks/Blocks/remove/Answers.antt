@@ -1,8 +1,7 @@
 -- The interval lies in one block, which is spare without it if it has no other.
-use Rattle.buffer_pool.proofs.Common.{HALF, Interval, [], all_in, ap, arith, get_or, get_or_read, length, remove, set, take, ◌*◌, ◌+◌}
-use Rattle.buffer_pool.proofs.Common.{◌-◌, ◌<◌, ◌∙◌, ◌≡◌}
+use Rattle.buffer_pool.proofs.Common.{HALF, Interval, [], all_in, ap, arith, get_or_read, remove, set, ◌*◌, ◌-◌, ◌∙◌}
 use Rattle.std.specs.Prelude.{List}
-use Rattle.buffer_pool.proofs.Blocking.{IsCleared, cleared}
+use Rattle.buffer_pool.proofs.Filling.{IsCleared, cleared}
 use Rattle.buffer_pool.proofs.Joins.{remove_in}
 use Rattle.buffer_pool.proofs.blocks.Blocks.remove.Goals.{After-clear}
 use Rattle.buffer_pool.proofs.blocks.Blocks.remove.Goals as goal
@@ -21,8 +20,7 @@ pub returns : goal.returns
 returns c =
     let taken = rw (← c.self.view_is) at c.requires in
     let k = clears (goal.at.returns c).After-clear in
-    let here : c.index_mut.result.now ≡ get_or c.self.inside.used.items c.args.spot.block [] =
-    get_or_read c.self.inside.used.items c.args.spot.block c.index_mut.result.now taken.0 c.index_mut.ensures.value [] in
+    let here = get_or_read c.self.inside.used.items c.args.spot.block c.index_mut.result.now taken.0 c.index_mut.ensures.value [] in
     rw (← c.self.view_is)
     (record {
       items_are = k.all

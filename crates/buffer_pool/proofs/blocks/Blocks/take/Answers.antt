@@ -1,13 +1,13 @@
 -- Each block gives as many buffers as have room in it.
 use Rattle.buffer_pool.proofs.Common.{Interval, IsSane, MAX_PAGES, [], add-mul, all_in, ap, append-nil, append_assoc, arith, get_or}
-use Rattle.buffer_pool.proofs.Common.{get_or-set_same, get_or_read, holes_after, length, length-remove, looks_in, nil_from_length, refl}
-use Rattle.buffer_pool.proofs.Common.{remove, rules, set, starts_in, subst, sym, ◌*◌, ◌++◌, ◌+◌, ◌-◌, ◌<◌, ◌∙◌, ◌≡◌, ◌≤◌}
+use Rattle.buffer_pool.proofs.Common.{get_or-set_same, get_or_read, length, length-remove, looks_in, nil_from_length, refl, remove, rules}
+use Rattle.buffer_pool.proofs.Common.{set, starts_in, subst, sym, ◌*◌, ◌++◌, ◌+◌, ◌-◌, ◌<◌, ◌∙◌, ◌≡◌, ◌≤◌}
 use Rattle.std.proofs.Common.{List}
 use Rattle.std.specs.Prelude.{All}
 use Rattle.std.proofs.lemmas.List.{length-append, length-set}
-use Rattle.buffer_pool.proofs.Blocking.{IsCleared, cleared}
-use Rattle.buffer_pool.proofs.Filling.{IsFilling, IsFilled, filling-start, block-left, block-sane, block-few, block-looks, filled}
-use Rattle.buffer_pool.proofs.Taking.{length-starts, length-after}
+use Rattle.buffer_pool.proofs.Filling.{IsCleared, IsFilled, IsFilling, block-few, block-left, block-looks, block-sane, cleared, filled}
+use Rattle.buffer_pool.proofs.Filling.{filling-start}
+use Rattle.buffer_pool.proofs.Taking.{length-after, length-starts}
 use Rattle.buffer_pool.proofs.blocks.Blocks.take.Goals.{After-index_mut, After-take-taken, After-clear-kept}
 use Rattle.buffer_pool.proofs.blocks.Blocks.take.Goals as goal
 

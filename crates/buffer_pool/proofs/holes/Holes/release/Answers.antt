@@ -1,7 +1,7 @@
 -- The ends rise, and the blocks before the place stay.
 use Rattle.buffer_pool.proofs.Common.{IsNonDecreasingBy, all_in, end_of, subst, sym}
 use Rattle.buffer_pool.proofs.Spaces.{spaced-rises}
-use Rattle.buffer_pool.proofs.Passing.{passed-kept}
+use Rattle.buffer_pool.proofs.Filling.{passed-kept}
 use Rattle.buffer_pool.proofs.holes.Holes.release.Goals as goal
 
 pub find-found-requires : goal.find-found-requires

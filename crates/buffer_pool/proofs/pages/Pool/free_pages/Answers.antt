@@ -1,6 +1,6 @@
 -- The fields keep what callers see sound.
 use Rattle.buffer_pool.specs.Lengths.{held_from}
-use Rattle.buffer_pool.proofs.Sounds.{sound_from}
+use Rattle.buffer_pool.proofs.Least.{sound_from}
 use Rattle.buffer_pool.proofs.pages.Pool.free_pages.Goals as goal
 
 pub returns-clause-sound : goal.returns-clause-sound

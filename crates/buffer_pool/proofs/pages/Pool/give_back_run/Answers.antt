@@ -1,7 +1,7 @@
 -- The intervals that go back leave one hole, which is joined with those that it touches.
 use Rattle.buffer_pool.proofs.Common.{arith, held_from, ◌∙◌}
-use Rattle.buffer_pool.proofs.Backs.{KeepsBack, keeps_back}
-use Rattle.buffer_pool.proofs.Sounds.{sound_from}
+use Rattle.buffer_pool.proofs.Runs.{KeepsBack, keeps_back}
+use Rattle.buffer_pool.proofs.Least.{sound_from}
 use Rattle.buffer_pool.proofs.pages.Pool.give_back_run.Goals.{After-let_go}
 use Rattle.buffer_pool.proofs.pages.Pool.give_back_run.Goals as goal
 
@@ -33,8 +33,7 @@ overflow_add-self c =
 
 pub overflow_sub-self : goal.overflow_sub-self
 overflow_sub-self c =
-    let k = keeps (goal.at.overflow_sub-self c).After-let_go in
-    omega (arith, k.fewer, c.self.invariant.0.1)
+    omega (arith, (keeps (goal.at.overflow_sub-self c).After-let_go).fewer, c.self.invariant.0.1)
 
 pub invariant_of-self : goal.invariant_of-self
 invariant_of-self c =

@@ -1,6 +1,6 @@
 -- The fields keep what callers see sound.
 use Rattle.buffer_pool.specs.Lengths.{held_from}
-use Rattle.buffer_pool.proofs.Sounds.{sound_from}
+use Rattle.buffer_pool.proofs.Least.{sound_from}
 use Rattle.buffer_pool.proofs.pages.Pool.held.Goals as goal
 
 pub returns-in-Ok-clause-sound : goal.returns-in-Ok-clause-sound

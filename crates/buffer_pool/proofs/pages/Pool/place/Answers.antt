@@ -1,17 +1,16 @@
 -- What all the buffers together make of the pool.
 use Rattle.buffer_pool.proofs.Common.{AreGaps, MAX_PAGES, ap, arith, held_from, leb-false, leb-true, refl, rooms, rules, starts_in, sym}
-use Rattle.buffer_pool.proofs.Common.{with_buffers, ◌+◌, ◌<◌, ◌∙◌, ◌≤◌}
+use Rattle.buffer_pool.proofs.Common.{with_buffers, ◌+◌, ◌∙◌, ◌≤◌}
 use Rattle.buffer_pool.specs.Rows.{BlockRows}
-use Rattle.buffer_pool.proofs.Keeping.{KeepsRun, gaps_of, keeps_run, lists_of, first_fits, places_buffers, not_full, is_full}
-use Rattle.buffer_pool.proofs.Orders.{length-le}
-use Rattle.buffer_pool.proofs.Sounds.{sound_from}
+use Rattle.buffer_pool.proofs.Runs.{KeepsRun, first_fits, gaps_of, is_full, keeps_run, lists_of, not_full, places_buffers}
+use Rattle.buffer_pool.proofs.Joins.{length-le}
+use Rattle.buffer_pool.proofs.Least.{sound_from}
 use Rattle.buffer_pool.proofs.pages.Pool.place.Goals.{Else-not-has_rooms}
 use Rattle.buffer_pool.proofs.pages.Pool.place.Goals as goal
 
 pub returns-then-not-has_rooms-clause-full : goal.returns-then-not-has_rooms-clause-full
 returns-then-not-has_rooms-clause-full c =
-    let few : rooms c.args.pages_each c.self.inside.holes.items < c.args.count =
-    leb-false _ _ (sym c.has_rooms.ensures.rooms ∙ c.if-not-has_rooms.true) in
+    let few = leb-false _ _ (sym c.has_rooms.ensures.rooms ∙ c.if-not-has_rooms.true) in
     rw (← c.self.view_is) (
       λ _. is_full _ _ _ _ _ _ _ c.requires.1 c.self.invariant.1 few,
       λ _. refl,
@@ -83,8 +82,6 @@ invariant_of-self c = rw c.has_rooms.ensures.same c.self.invariant
 pub invariant_of-self-in-Ok : goal.invariant_of-self-in-Ok
 invariant_of-self-in-Ok c =
     let all = all_fit (goal.at.invariant_of-self-in-Ok c).Else-not-has_rooms in
-    let k = all.kept in
-    let long = all.run.length_is in
     rw (
       c.take-placed.ensures.items,
       c.hold.ensures.held,
@@ -95,8 +92,8 @@ invariant_of-self-in-Ok c =
       c.reserve.ensures.holes,
       c.has_rooms.ensures.same,
     ) (
-      (c.self.invariant.0.0, omega (arith, long, c.self.invariant.0.1)),
-      k c.reserve.new.holes.capacity (omega (
+      (c.self.invariant.0.0, omega (arith, all.run.length_is, c.self.invariant.0.1)),
+      all.kept c.reserve.new.holes.capacity (omega (
         arith,
         c.self.invariant.0.1,
         c.in-Ok.ensures.holes_room,

@@ -1,5 +1,5 @@
 use Rattle.event_laws.proofs.Common.{[], part, rest_at, ◌∷◌}
-use Rattle.event_laws.proofs.DifferLaws.{alike_more, apart_at, none_left}
+use Rattle.event_laws.proofs.RecallLaws.{alike_more, apart_at, none_left}
 use Rattle.event_laws.proofs.parts.Parts.differ.Goals as goal
 
 pub returns-in_default : goal.returns-in_default

@@ -1,5 +1,5 @@
 use Rattle.event_laws.proofs.Common.{Stands, length, part, rest_at}
-use Rattle.event_laws.proofs.DifferLaws.{Alike}
+use Rattle.event_laws.proofs.RecallLaws.{Alike}
 use Rattle.event_laws.proofs.parts.Parts.differ.Given as goal
 
 -- the lists begin alike

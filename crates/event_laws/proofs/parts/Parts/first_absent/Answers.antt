@@ -1,5 +1,5 @@
 use Rattle.event_laws.proofs.Common.{arith, common_steps, false, is_among, length, makes_client, sym, true, ◌+◌, ◌∙◌, ◌≡◌}
-use Rattle.event_laws.proofs.MemberLaws.{marked_there, read_next}
+use Rattle.event_laws.proofs.NumberLaws.{marked_there, read_next}
 use Rattle.event_laws.proofs.parts.Parts.first_absent.Goals.{else-makes_client-via-then-makes_client+else-not-index}
 use Rattle.event_laws.proofs.parts.Parts.first_absent.Goals.{else-makes_client-via-else-makes_client}
 use Rattle.event_laws.proofs.parts.Parts.first_absent.Goals as goal

@@ -1,5 +1,5 @@
 use Rattle.event_laws.proofs.Common.{Marks, length, ◌+◌, ◌≡◌}
-use Rattle.event_laws.proofs.MemberLaws.{IsRead}
+use Rattle.event_laws.proofs.NumberLaws.{IsRead}
 use Rattle.event_laws.proofs.parts.Parts.first_absent.Given as goal
 
 -- each client that joined so far is there

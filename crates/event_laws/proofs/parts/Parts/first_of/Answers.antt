@@ -1,5 +1,5 @@
 use Rattle.event_laws.proofs.Common.{Stands, ap, part, rest_at, subst, ◌∙◌, ◌≡◌}
-use Rattle.event_laws.proofs.LinkLaws.{first_is, none_is}
+use Rattle.event_laws.proofs.WaitingLaws.{first_is, none_is}
 use Rattle.event_laws.proofs.parts.Parts.first_of.Goals as goal
 
 pub returns-then-client-self-clause-stands : goal.returns-then-client-self-clause-stands

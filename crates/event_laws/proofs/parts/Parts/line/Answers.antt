@@ -1,5 +1,5 @@
 use Rattle.event_laws.proofs.Common.{Strong, Weak, ap, arith, length, part, rest_at}
-use Rattle.event_laws.proofs.LineLaws.{fits_more, part_most}
+use Rattle.event_laws.proofs.SetLaws.{fits_more, part_most}
 use Rattle.event_laws.proofs.parts.Parts.line.Goals as goal
 
 pub overflow_add-events : goal.overflow_add-events

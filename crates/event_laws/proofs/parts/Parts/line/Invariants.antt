@@ -1,5 +1,5 @@
 use Rattle.event_laws.proofs.Common.{Stands, Strong, Weak, length, part, rest_at, ◌+◌, ◌≡◌}
-use Rattle.event_laws.proofs.LineLaws.{IsCounted}
+use Rattle.event_laws.proofs.SetLaws.{IsCounted}
 use Rattle.event_laws.proofs.parts.Parts.line.Given as goal
 
 -- what is counted, and what is left to be counted

@@ -1,5 +1,5 @@
 use Rattle.event_laws.proofs.Common.{Stands, ap, rest_at, subst, sym, ◌∙◌, ◌∷◌, ◌≡◌}
-use Rattle.event_laws.proofs.LinkLaws.{steps}
+use Rattle.event_laws.proofs.WaitingLaws.{steps}
 use Rattle.event_laws.proofs.parts.Parts.step.Goals as goal
 
 pub returns-clause-stands : goal.returns-clause-stands

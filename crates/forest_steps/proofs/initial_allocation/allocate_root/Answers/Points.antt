@@ -83,8 +83,7 @@ module _ (c : After-finish_event-arg-3-1) where
       let x = node_there c.requires.ready.ready.kept c.requires.ready.id key c.requires.ready.ready.change.named in
       let both : Some planned.node ≡ Some x.0 = sym planned.was ∙ x.1 in
       let one : planned.node ≡ x.0 = cc in
-      let own : planned.node.collection ≡ old.id =
-      ap (λ (m : Node). m.collection) one ∙ (x.3 ∙ sym (ap (λ (e : Entry). e.id) read ∙ place.id_is old)) in
+      let own = ap (λ (m : Node). m.collection) one ∙ (x.3 ∙ sym (ap (λ (e : Entry). e.id) read ∙ place.id_is old)) in
       affected_on planned.was own under
       (subst (λ e. EffectMade t c.make_effect.new.nodes.table c.make_effect.new.nodes.units.items (rows_of es) e mid key effect
       planned.node.head) again

@@ -1,6 +1,6 @@
 -- The keys behind it lie one lower.
 use Rattle.forest_store.proofs.Common.{◌∙◌, ap, drop, remove, Listed}
-use Rattle.forest_store.proofs.leaving.KeyMoves.{moved_down}
+use Rattle.forest_store.proofs.leaving.Places.{moved_down}
 use Rattle.std.proofs.Common.{arith}
 use Rattle.std.proofs.lemmas.Grind.{common_steps}
 use Rattle.forest_store.proofs.key_list.KeyList.remove.Goals as goal

@@ -29,15 +29,7 @@ pub returns-clause-may : goal.returns-clause-may
 returns-clause-may c =
     subst (λ (o : Option (ℕ × Change)). IfSome o (λ w. MayChange c.args.self.now.forest w.0 w.1)) (sym c.change_in.ensures)
     (of_pair (MayChange c.args.self.now.forest) (work_in c.decide.result.task)
-    (λ w e. (is_fitting (record {
-      pool = c.self.inside.contents.pool.size;
-      limits = c.self.inside.limits;
-      events = c.self.inside.events;
-      clients = c.self.inside.contents.clients.items;
-      forest = c.self.inside.contents.forest;
-      holds = c.self.inside.contents.holds;
-      trackers = c.self.inside.contents.trackers;
-    }) c.args.self.now c.args.client c.args.call.now c.decide.result.reply c.self.view_is
+    (λ w e. (is_fitting _ c.args.self.now c.args.client c.args.call.now c.decide.result.reply c.self.view_is
     (core_known c.self.inside.contents.pool _ c.self.invariant)
     c.decide.ensures.reply w (sym e ∙ c.decide.ensures.work)).may))
 
@@ -47,15 +39,7 @@ returns-clause-room c =
     ≡ true)) (sym c.change_in.ensures)
     (of_pair (λ id change. leaves_tracker_room change (collection_or_new c.args.self.now.forest id).nodes
     ≡ true) (work_in c.decide.result.task)
-    (λ w e. (is_fitting (record {
-      pool = c.self.inside.contents.pool.size;
-      limits = c.self.inside.limits;
-      events = c.self.inside.events;
-      clients = c.self.inside.contents.clients.items;
-      forest = c.self.inside.contents.forest;
-      holds = c.self.inside.contents.holds;
-      trackers = c.self.inside.contents.trackers;
-    }) c.args.self.now c.args.client c.args.call.now c.decide.result.reply c.self.view_is
+    (λ w e. (is_fitting _ c.args.self.now c.args.client c.args.call.now c.decide.result.reply c.self.view_is
     (core_known c.self.inside.contents.pool _ c.self.invariant)
     c.decide.ensures.reply w (sym e ∙ c.decide.ensures.work)).room))
 
@@ -65,14 +49,6 @@ returns-clause-fresh c =
     list_any (is_of key) (collection_or_new c.args.self.now.forest w.0).nodes ≡ false)) (sym c.change_in.ensures)
     (of_pair (λ id change. (key : NodeKey) → given c.args.self.now.forest key ≡ false →
     list_any (is_of key) (collection_or_new c.args.self.now.forest id).nodes ≡ false) (work_in c.decide.result.task)
-    (λ w e. (is_fitting (record {
-      pool = c.self.inside.contents.pool.size;
-      limits = c.self.inside.limits;
-      events = c.self.inside.events;
-      clients = c.self.inside.contents.clients.items;
-      forest = c.self.inside.contents.forest;
-      holds = c.self.inside.contents.holds;
-      trackers = c.self.inside.contents.trackers;
-    }) c.args.self.now c.args.client c.args.call.now c.decide.result.reply c.self.view_is
+    (λ w e. (is_fitting _ c.args.self.now c.args.client c.args.call.now c.decide.result.reply c.self.view_is
     (core_known c.self.inside.contents.pool _ c.self.invariant)
     c.decide.ensures.reply w (sym e ∙ c.decide.ensures.work)).fresh))

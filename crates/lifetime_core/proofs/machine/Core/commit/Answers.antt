@@ -1,4 +1,4 @@
-use Rattle.std.proofs.Common.{ℕ, ◌≡◌, ◌+◌, refl, ap, sym, ◌∙◌, subst, List, map, None, arith}
+use Rattle.std.proofs.Common.{List, None, ap, arith, map, refl, subst, sym, ℕ, ◌+◌, ◌∙◌}
 use Rattle.sm_names.specs.declared.keys.HeldBuffer.{HeldBuffer}
 use Rattle.sm_names.specs.declared.keys.Interval.{Interval}
 use Rattle.sm_names.specs.Words.{sorted_by}
@@ -21,14 +21,13 @@ mod Replies
 -- what the call does may be done
 pub take_effect-requires : goal.take_effect-requires
 take_effect-requires c =
-    let s = before (goal.at.take_effect-requires c).After-changes_nothing in
     let b = begun (goal.at.take_effect-requires c).After-changes_nothing in
     record {
       clients = (known (goal.at.take_effect-requires c).After-changes_nothing).rising;
       handles = moves _ _ _ _ c.args.decision.reply _ _ b;
       may = b.may;
       places = c.self.invariant.whole.places;
-      asks = asks_only s c.args.client _ _ _ b.work;
+      asks = asks_only (before (goal.at.take_effect-requires c).After-changes_nothing) c.args.client _ _ _ b.work;
       out = (known (goal.at.take_effect-requires c).After-changes_nothing).out;
       pool = c.self.invariant.whole.pages;
       rising = above _ _ _ _ c.args.decision.reply _ _ b;
@@ -42,8 +41,7 @@ pub invariant_of-self : goal.invariant_of-self
 invariant_of-self c =
     let s = before (goal.at.invariant_of-self c).After-changes_nothing in
     let i = idle (goal.at.invariant_of-self c).After-changes_nothing c.if-changes_nothing.true in
-    let next : c.next_event-self-inside.result ≡ s.events + 1 =
-    c.next_event-self-inside.ensures ∙ ap (λ (x : State). x.events + 1) (sym c.self.view_is) in
+    let next = c.next_event-self-inside.ensures ∙ ap (λ (x : State). x.events + 1) (sym c.self.view_is) in
     rw next (core_goes_on c.self.inside.contents.pool s (further _ _ _ _ i) c.args.client c.args.call.now c.args.decision.reply
     (step_answers _ _ _ _ _ None None i.begins (parts_of s) i.takes) (idle_follows _ _ _ _ i) c.self.invariant c.self.inside.contents.pool
     (omega arith) (omega arith) c.self.invariant.whole.pages refl

@@ -9,7 +9,5 @@ overflow_sub-result c = let within = core_within _ _ c.self.invariant in omega (
 
 pub returns : goal.returns
 returns c =
-    let within = core_within _ _ c.self.invariant in
-    let events = ap (λ (s : State). s.events) c.self.view_is in
     let most = ap (λ (s : State). s.limits.events) c.self.view_is in
-    omega (arith, within, c.events.ensures.value, events, most)
+    omega (arith, core_within _ _ c.self.invariant, c.events.ensures.value, ap (λ (s : State). s.events) c.self.view_is, most)

@@ -1,10 +1,9 @@
-use Rattle.std.proofs.Common.{ℕ, ◌≡◌, ◌<◌, ◌∷◌, [], length, get_or, length-append, refl, sym, ap, ◌∙◌, subst, arith}
+use Rattle.std.proofs.Common.{[], ap, arith, get_or, length, length-append, refl, subst, sym, ℕ, ◌<◌, ◌∙◌, ◌∷◌, ◌≡◌}
 use Rattle.sm_names.specs.declared.messages.Call.{Call}
 use Rattle.core_state.specs.Theorem.{GoesOn, Makes, entries}
 use Rattle.core_state.proofs.theorem.Leads.{leads_limits, leads_more, leads_none, leads_pool, leads_untaken, makes, stopped_full}
 use Rattle.core_state.proofs.theorem.Leads.{stopped_limits, stopped_pool, stopped_untaken, stops_at_once, stops_there}
 use Rattle.core_state.proofs.theorem.Runs.{goes_none, goes_more}
-use Rattle.std.proofs.Common.{rules}
 use Rattle.lifetime_core.proofs.machine.Core.run.Goals as goal
 
 pub loop-client-init : goal.loop-client-init
@@ -20,8 +19,7 @@ loop-client-init c = record {
 pub loop-client-preserved : goal.loop-client-preserved
 loop-client-preserved c =
     let count : length c.loop-client.replies.items ≡ c.loop-client.client-index = c.loop-client.invariant.count in
-    let item : c.loop-client-item.result ≡ get_or c.args.calls.now (length c.loop-client.replies.items) c.loop-client-item.result =
-    c.loop-client-item.is ∙ ap (λ n. get_or c.args.calls.now n c.loop-client-item.result) (sym count) in
+    let item = c.loop-client-item.is ∙ ap (λ n. get_or c.args.calls.now n c.loop-client-item.result) (sym count) in
     let next = subst (λ (x : ℕ × Call). GoesOn c.loop-client.self c.step_into.new.self ((x.0, x.1, c.step_into.new.out) ∷ [])) item
     c.in-Ok-step_into.ensures.goes_on in
     let made : Makes c.loop-client.self c.step_into.new.self (c.loop-client-item.result.0, c.loop-client-item.result.1, c.step_into.new.out) =
@@ -95,51 +93,3 @@ returns-clause-limits c =
 pub returns-clause-untaken : goal.returns-clause-untaken
 returns-clause-untaken c =
     leads_untaken c.args.self.now c.loop-client.self (entries c.args.calls.now c.loop-client.replies.items) c.loop-client.invariant.leads
-
-pub returns-clause-made : goal.returns-clause-made
-returns-clause-made c = search rules
-
-pub returns-clause-few : goal.returns-clause-few
-returns-clause-few c = search rules
-
-pub returns-clause-stopped : goal.returns-clause-stopped
-returns-clause-stopped c = search rules
-
-pub returns-clause-full : goal.returns-clause-full
-returns-clause-full c = search rules
-
-pub returns-clause-untaken_some : goal.returns-clause-untaken_some
-returns-clause-untaken_some c = search rules
-
-pub returns-clause-goes_on : goal.returns-clause-goes_on
-returns-clause-goes_on c = search rules
-
-pub returns-clause-goes_on_some : goal.returns-clause-goes_on_some
-returns-clause-goes_on_some c = search rules
-
-pub returns-clause-all : goal.returns-clause-all
-returns-clause-all c = search rules
-
-pub returns-in_default-clause-all : goal.returns-in_default-clause-all
-returns-in_default-clause-all c = search rules
-
-pub returns-in_default-clause-few : goal.returns-in_default-clause-few
-returns-in_default-clause-few c = search rules
-
-pub returns-in_default-clause-full : goal.returns-in_default-clause-full
-returns-in_default-clause-full c = search rules
-
-pub returns-in_default-clause-goes_on : goal.returns-in_default-clause-goes_on
-returns-in_default-clause-goes_on c = search rules
-
-pub returns-in_default-clause-limits : goal.returns-in_default-clause-limits
-returns-in_default-clause-limits c = search rules
-
-pub returns-in_default-clause-made : goal.returns-in_default-clause-made
-returns-in_default-clause-made c = search rules
-
-pub returns-in_default-clause-pool : goal.returns-in_default-clause-pool
-returns-in_default-clause-pool c = search rules
-
-pub returns-in_default-clause-untaken : goal.returns-in_default-clause-untaken
-returns-in_default-clause-untaken c = search rules

@@ -1,4 +1,4 @@
-use Rattle.std.proofs.Common.{◌≡◌, ◌∙◌, ap, false, is_some, rules, sym}
+use Rattle.std.proofs.Common.{ap, false, is_some, rules, sym, ◌∙◌}
 use Rattle.std.specs.Option.{unwrap_or}
 use Rattle.core_state.specs.State.{State}
 use Rattle.core_state.proofs.joined.Rows.{joined_tells, shut_tells}
@@ -12,8 +12,7 @@ standing_of-requires c = let rise = (core_known _ _ c.self.invariant).rising in 
 -- the row of the client tells both
 pub returns : goal.returns
 returns c =
-    let same : c.args.self.now.clients ≡ c.deref.result.now =
-    ap (λ (s : State). s.clients) (sym c.self.view_is) ∙ sym c.deref.ensures.value in
+    let same = ap (λ (s : State). s.clients) (sym c.self.view_is) ∙ sym c.deref.ensures.value in
     record {
       joined = rw same (joined_tells c.args.client c.deref.result.now ∙ ap is_some (sym c.standing_of.ensures));
       shut = rw same (shut_tells c.args.client c.deref.result.now ∙ ap (λ o. unwrap_or o false) (sym c.standing_of.ensures));

@@ -3,9 +3,6 @@ use Rattle.core_state.proofs.theorem.Leads.{leads_refused}
 use Rattle.std.proofs.Common.{arith, rules}
 use Rattle.lifetime_core.proofs.machine.Core.starting_at.Goals as goal
 
-pub overflow_cast-nodes : goal.overflow_cast-nodes
-overflow_cast-nodes c = search rules
-
 pub returns-clause-state : goal.returns-clause-state
 returns-clause-state c = search rules
 

@@ -1,7 +1,7 @@
 use Rattle.node_table.proofs.Common.{Appends, [], ap, arith, children_at, common_steps, is_some, length, refl, rules, subst, sym, ◌++◌}
 use Rattle.node_table.proofs.Common.{◌+◌, ◌<◌, ◌∙◌, ◌∷◌, ◌≡◌}
 use Rattle.std.proofs.lemmas.List.{length_push}
-use Rattle.node_table.proofs.Listing.{appends-child, appends-none, appends-more, appends-all, appends-within}
+use Rattle.node_table.proofs.Lists.{appends-all, appends-child, appends-more, appends-none, appends-within}
 use Rattle.node_table.proofs.table.NodeTable.append_children.Goals as goal
 
 -- the child is one of its parent's
@@ -36,12 +36,10 @@ children-init g c =
 pub children-smaller : goal.children-smaller
 children-smaller g c =
     let pushed : c.push.new.self.items ≡ c.children.keys.items ++ c.in-Some.child ∷ [] = search rules in
-    let size : length c.push.new.self.items ≡ length c.children.keys.items + 1 =
-    ap length pushed ∙ length_push c.children.keys.items c.in-Some.child in
     let within : length c.children.keys.items < length c.args.keys.now.items + length (children_at c.args.self.now c.args.key) =
     appends-within (children_at c.args.self.now c.args.key) c.args.keys.now.items c.children.keys.items c.children.at c.in-Some.child
     c.children.invariant.appends c.in-Some.is in
-    omega (arith, size, within)
+    omega (arith, ap length pushed ∙ length_push c.children.keys.items c.in-Some.child, within)
 
 -- no child is left
 pub returns : goal.returns

@@ -1,7 +1,6 @@
 use Rattle.node_table.proofs.Common.{Cuts, IsSome, row_at, subst, sym, table_in, ◌∙◌}
-use Rattle.node_table.proofs.Slots.{entry-there}
-use Rattle.node_table.proofs.Leaving.{parent-entry, prev-entry, next-entry}
-use Rattle.node_table.proofs.Cutting.{root-cut, child-cut}
+use Rattle.node_table.proofs.Births.{entry-there}
+use Rattle.node_table.proofs.Steps.{child-cut, next-entry, parent-entry, prev-entry, root-cut}
 use Rattle.node_table.proofs.table.NodeTable.cut.Goals as goal
 
 -- the key is there in the table that the fields make

@@ -1,7 +1,7 @@
 use Rattle.node_table.proofs.Common.{None, Some, Taken, ap, arith, common_steps, entry_in, get, link_in, row_at, rules, stamp_in, sym}
 use Rattle.node_table.proofs.Common.{◌∙◌, ◌≡◌}
-use Rattle.node_table.proofs.Chains.{Shows, next_shown, entry-shows, none-shown, none-above, not-there}
-use Rattle.node_table.proofs.Readings.{forest}
+use Rattle.node_table.proofs.Chains.{Shows, entry-shows, next_shown, none-above, none-shown, not-there}
+use Rattle.node_table.proofs.Lists.{forest}
 use Rattle.node_table.proofs.table.NodeTable.entry.Goals.{Then-entry-key, Else-entry-key}
 use Rattle.node_table.proofs.table.NodeTable.entry.Goals as goal
 

@@ -1,6 +1,6 @@
 use Rattle.node_table.proofs.Common.{Births, Bumped, IfSome, IsSome, arith, last_under, refl, row_at, rules, slice_index_or, subst, sym}
 use Rattle.node_table.proofs.Common.{table_in, ◌∙◌, ◌≡◌}
-use Rattle.node_table.proofs.Slots.{entry-parent}
+use Rattle.node_table.proofs.Births.{entry-parent}
 use Rattle.node_table.proofs.Joining.{born, last-entry, linked-room}
 use Rattle.node_table.proofs.table.NodeTable.insert.Goals as goal
 

@@ -1,5 +1,5 @@
 use Rattle.node_table.proofs.Common.{IsSome, Some, ap, arith, common_steps, node_at, refl, row_at, subst, sym, table_with_node, ◌∙◌, ◌≡◌}
-use Rattle.node_table.proofs.Slots.{taken-by}
+use Rattle.node_table.proofs.Births.{taken-by}
 use Rattle.node_table.proofs.Writes.{sound-written, table-written, node-there, writes}
 use Rattle.node_table.proofs.table.NodeTable.kept_mut.Goals as goal
 

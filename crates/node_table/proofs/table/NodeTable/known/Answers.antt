@@ -1,14 +1,13 @@
-use Rattle.node_table.proofs.Common.{Some, Taken, ap, entry_in, get, link_in, sym, ◌∙◌, ◌≡◌}
+use Rattle.node_table.proofs.Common.{Some, ap, entry_in, link_in, sym, ◌∙◌}
 use Rattle.node_table.proofs.Chains.{next_shown}
-use Rattle.node_table.proofs.Readings.{forest}
-use Rattle.node_table.proofs.Slots.{taken-by}
+use Rattle.node_table.proofs.Lists.{forest}
+use Rattle.node_table.proofs.Births.{taken-by}
 use Rattle.node_table.proofs.table.NodeTable.known.Goals as goal
 
 -- the entry's link is to the next sibling
 pub returns-clause-next : goal.returns-clause-next
 returns-clause-next g c some =
-    let at : get c.self.inside.slots c.args.key.slot ≡ Some (Taken c.entry.result.now) =
-    c.index.ensures ∙ taken-by (Some c.index.result.now) c.entry.result.now c.entry.ensures in
+    let at = c.index.ensures ∙ taken-by (Some c.index.result.now) c.entry.result.now c.entry.ensures in
     sym (ap (λ o. link_in (λ e. e.next) (entry_in o)) at)
     ∙ next_shown c.self.inside.slots.slots c.self.inside.nexts.items c.self.inside.first
     c.self.inside.count c.self.inside.limit c.self.invariant

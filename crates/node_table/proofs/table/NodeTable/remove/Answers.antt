@@ -1,9 +1,9 @@
 use Rattle.node_table.proofs.Common.{Cuts, HasEntry, IsSome, Removes, Some, ap, arith, common_steps, is_some, row_at, rules, subst, sym}
 use Rattle.node_table.proofs.Common.{table_in, without_parent, ◌∙◌, ◌≡◌}
 use Rattle.node_table.specs.Sound.{node_in}
-use Rattle.node_table.proofs.Slots.{entry-there, is_some-option_map}
+use Rattle.node_table.proofs.Births.{entry-there, is_some-option_map}
 use Rattle.node_table.proofs.Keys.{eq-false}
-use Rattle.node_table.proofs.Removals.{sound-removed, removes}
+use Rattle.node_table.proofs.Chains.{removes, sound-removed}
 use Rattle.node_table.proofs.table.NodeTable.remove.Goals as goal
 
 -- the key is there after its cut

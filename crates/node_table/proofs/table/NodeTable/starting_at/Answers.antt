@@ -1,5 +1,5 @@
 use Rattle.std.proofs.Common.{rules}
-use Rattle.node_table.proofs.Readings.{sound-empty, empty-row, empty-given}
+use Rattle.node_table.proofs.Lists.{empty-given, empty-row, sound-empty}
 use Rattle.node_table.proofs.table.NodeTable.starting_at.Goals as goal
 
 pub invariant_of-result : goal.invariant_of-result

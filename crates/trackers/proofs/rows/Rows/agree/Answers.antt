@@ -1,5 +1,5 @@
 use Rattle.trackers.proofs.Common.{TrackerRow, ap, row_at, sym, ◌∙◌}
-use Rattle.trackers.proofs.FiringLemmas.{cell_here, row_here}
+use Rattle.trackers.proofs.SlotLemmas.{cell_here, row_here}
 use Rattle.trackers.proofs.rows.Rows.agree.Goals as goal
 
 -- the cell of the row is the one that the place names

@@ -1,5 +1,5 @@
 use Rattle.trackers.proofs.Common.{arith, common_steps, sym}
-use Rattle.trackers.proofs.FiringLemmas.{row_here, slot_here, fired_all}
+use Rattle.trackers.proofs.SlotLemmas.{fired_all, row_here, slot_here}
 use Rattle.trackers.proofs.rows.Rows.fire.Goals as goal
 
 -- the row is in its slot

@@ -9,8 +9,7 @@ fire-requires-clause-within c = found_within c.args.id c.in-Some.ensures.1
 pub fire-requires-clause-waits : goal.fire-requires-clause-waits
 fire-requires-clause-waits c = λ d.
     let found = c.in-Some.ensures.1 in
-    let same = found_once c.args.id found c.requires.waits.2 in
-    ap is_waiting (found_row c.args.id found d ∙ same.1) ∙ c.requires.waits.3
+    ap is_waiting (found_row c.args.id found d ∙ (found_once c.args.id found c.requires.waits.2).1) ∙ c.requires.waits.3
 
 -- and is over then
 pub returns-clause-row : goal.returns-clause-row

@@ -5,8 +5,7 @@ use Rattle.trackers.proofs.rows.Rows.push.Goals as goal
 -- with more room the rows are as they were
 pub invariant_of-self : goal.invariant_of-self
 invariant_of-self c =
-    let same = ap (λ s. s.slots) c.make_room.ensures.slots in
-    rw (c.make_room.ensures.places, c.make_room.ensures.fired, same) c.self.invariant
+    rw (c.make_room.ensures.places, c.make_room.ensures.fired, ap (λ s. s.slots) c.make_room.ensures.slots) c.self.invariant
 
 -- the row stands behind the others
 pub invariant_of-self-2 : goal.invariant_of-self-2

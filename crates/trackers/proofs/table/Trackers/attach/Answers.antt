@@ -1,5 +1,5 @@
 use Rattle.trackers.proofs.Common.{arith, filter_map, length, recursion_from_All, refl, waiting_of_row, ◌≡◌}
-use Rattle.trackers.proofs.AttachLemmas.{count_shown, all_below, sound_push, sound_grown, table_push}
+use Rattle.trackers.proofs.SlotLemmas.{all_below, count_shown, sound_grown, sound_push, table_push}
 use Rattle.trackers.proofs.table.Trackers.attach.Goals.{in-Ok, in-Err}
 use Rattle.trackers.proofs.table.Trackers.attach.Goals as goal
 
@@ -34,10 +34,9 @@ invariant_of-self c =
 -- as many wait as may
 pub returns-then-waiting-self-clause-full : goal.returns-then-waiting-self-clause-full
 returns-then-waiting-self-clause-full c =
-    let shown = count_shown c.self.inside.rows.rows in
     let held = c.self.invariant.held in
     let full : length (filter_map waiting_of_row c.self.inside.rows.rows) ≡ c.self.inside.limit =
-    omega (arith, shown, held.counted, held.within, c.waiting-waiting.ensures) in
+    omega (arith, count_shown c.self.inside.rows.rows, held.counted, held.within, c.waiting-waiting.ensures) in
     rw (← c.self.view_is) ((λ e. full), (λ e. refl))
 
 pub returns-clause-ok : goal.returns-clause-ok

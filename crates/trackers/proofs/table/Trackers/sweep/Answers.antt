@@ -1,9 +1,7 @@
 use Rattle.trackers.proofs.Common.{Waiting, World, ap, arith, filter_map, ids_of, length, map, recursion_from_All, waiting_of_row, ◌++◌}
 use Rattle.trackers.proofs.Common.{◌∙◌}
-use Rattle.trackers.proofs.AttachLemmas.{count_shown}
-use Rattle.trackers.proofs.IndexLemmas.{due_fit, due_found, due_rows, ids_in}
-use Rattle.trackers.proofs.HeldLemmas.{firings_after}
-use Rattle.trackers.proofs.SweepLemmas.{swept_rest, swept_unfired, swept_dropped}
+use Rattle.trackers.proofs.SlotLemmas.{count_shown, swept_dropped, swept_rest, swept_unfired}
+use Rattle.trackers.proofs.Walks.{due_fit, due_found, due_rows, firings_after, ids_in}
 use Rattle.trackers.proofs.table.Trackers.sweep.Goals as goal
 
 -- there is room for all that wait

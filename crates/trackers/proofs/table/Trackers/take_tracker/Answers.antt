@@ -10,8 +10,7 @@ take-requires c = found_within _ c.in-Some.ensures.1
 pub invariant_of-self : goal.invariant_of-self
 invariant_of-self c =
     let found = c.in-Some.ensures in
-    let here = found_row _ found.1 found.0 in
-    rw (c.take.ensures.taken found.0, here) (sound_taken _ _ _ _ _ _ found.1 c.self.invariant)
+    rw (c.take.ensures.taken found.0, found_row _ found.1 found.0) (sound_taken _ _ _ _ _ _ found.1 c.self.invariant)
 
 pub returns-in-Some-clause-tracker : goal.returns-in-Some-clause-tracker
 returns-in-Some-clause-tracker c =
@@ -22,22 +21,18 @@ returns-in-Some-clause-tracker c =
 pub returns-in-Some-clause-cell : goal.returns-in-Some-clause-cell
 returns-in-Some-clause-cell c =
     let found = c.in-Some.ensures in
-    let here = found_row _ found.1 found.0 in
-    rw (← c.self.view_is, c.take.ensures.reader found.0, here) (reader_cell _ found.1)
+    rw (← c.self.view_is, c.take.ensures.reader found.0, found_row _ found.1 found.0) (reader_cell _ found.1)
 
 pub returns-in-Some-clause-taken : goal.returns-in-Some-clause-taken
 returns-in-Some-clause-taken c =
     let found = c.in-Some.ensures in
-    let here = found_row _ found.1 found.0 in
-    rw (← c.self.view_is, c.take.ensures.taken found.0, here) (table_taken _ c.self.inside.limit _ found.1)
+    rw (← c.self.view_is, c.take.ensures.taken found.0, found_row _ found.1 found.0) (table_taken _ c.self.inside.limit _ found.1)
 
 -- no row has this id
 pub returns-in-None-clause-tracker : goal.returns-in-None-clause-tracker
 returns-in-None-clause-tracker c =
-    let none = c.in-None.ensures in
-    rw (← c.self.view_is, none_untaken c.args.id c.self.inside.rows.rows none) refl
+    rw (← c.self.view_is, none_untaken c.args.id c.self.inside.rows.rows c.in-None.ensures) refl
 
 pub returns-in-None-clause-taken : goal.returns-in-None-clause-taken
 returns-in-None-clause-taken c =
-    let none = c.in-None.ensures in
-    rw (← c.self.view_is, none_without c.args.id c.self.inside.rows.rows none) refl
+    rw (← c.self.view_is, none_without c.args.id c.self.inside.rows.rows c.in-None.ensures) refl

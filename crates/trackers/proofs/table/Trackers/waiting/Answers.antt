@@ -1,5 +1,5 @@
 use Rattle.std.proofs.Common.{arith}
-use Rattle.trackers.proofs.AttachLemmas.{count_shown}
+use Rattle.trackers.proofs.SlotLemmas.{count_shown}
 use Rattle.trackers.proofs.table.Trackers.waiting.Goals as goal
 
 -- as many rows wait as did not fire

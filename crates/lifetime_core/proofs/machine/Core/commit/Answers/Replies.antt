@@ -1,5 +1,5 @@
 -- What `commit` answers: the reply, the state that follows, and the history that the core then shows.
-use Rattle.std.proofs.Common.{◌≡◌, ◌<◌, ◌+◌, ap, sym, ◌∙◌, None, arith, rules}
+use Rattle.std.proofs.Common.{None, ap, arith, rules, sym, ◌+◌, ◌<◌, ◌∙◌}
 use Rattle.sm_names.specs.Answers.{key_told}
 use Rattle.core_state.specs.Reads.{readings_of}
 use Rattle.core_state.specs.State.{State}
@@ -18,8 +18,7 @@ pub idle_returns : goal.returns-then-changes_nothing-clause-stepped
 idle_returns c =
     let s = before (goal.at.returns-then-changes_nothing-clause-stepped c).After-changes_nothing in
     let i = idle (goal.at.returns-then-changes_nothing-clause-stepped c).After-changes_nothing c.if-changes_nothing.true in
-    let next : c.next_event-self-inside.result ≡ s.events + 1 =
-    c.next_event-self-inside.ensures ∙ ap (λ (x : State). x.events + 1) (sym c.self.view_is) in
+    let next = c.next_event-self-inside.ensures ∙ ap (λ (x : State). x.events + 1) (sym c.self.view_is) in
     let answers = step_answers _ _ _ _ _ None None i.begins (parts_of s) i.takes in
     let follows = idle_follows _ _ _ _ i in
     let room : s.events < s.limits.events = omega arith in
