@@ -14,8 +14,8 @@ import sys
 
 TOP = pathlib.Path(__file__).resolve().parent.parent
 PAGE = TOP / "docs/try.html"
-CALLED = ["script_explain", "script_draw"]
-OWN = ["build.sh", "heap.c", "index.html", "narrow.py", "pack.py", "page.js", "page_calls/src/**/*.rattle"]
+CALLED = ["script_explain", "script_draw", "outcome_runs"]
+OWN = ["build.sh", "heap.c", "index.html", "narrow.py", "pack.py", "page.js", "orders.js", "page_calls/src/**/*.rattle"]
 
 
 def crates():
@@ -39,6 +39,7 @@ def sources():
     files = [file for name in crates() for file in (TOP / "crates" / name / "src").rglob("*.rt")]
     files += [file for pattern in OWN for file in (TOP / "web").glob(pattern)]
     files += (TOP / "examples").glob("*.script")
+    files += [file.with_suffix(".actors") for file in (TOP / "examples").glob("*.outcomes")]
     return sorted(file.relative_to(TOP) for file in files)
 
 

@@ -26,7 +26,7 @@ exec "$clang" "\$@"
 END
 chmod +x "$tools/bin/clang"
 
-build page_calls "script_explain script_draw" "$tools" src/lib.rt "$out/page.a" --crate-type staticlib
+build page_calls "script_explain script_draw outcome_runs" "$tools" src/lib.rt "$out/page.a" --crate-type staticlib
 cd "$out"
 "$clang" -x ir -S -emit-llvm -O0 -Xclang -disable-llvm-passes module.bc -o module.ll
 python3 ../narrow.py module.ll > narrow.ll
@@ -37,7 +37,7 @@ ln -sf "$kit/toolchain/bin/ld.lld" wasm-ld
 link() { # what is written, more words
     to=$1
     shift
-    ./wasm-ld --no-entry --stack-first -z stack-size=1048576 --export=sysmem_explain --export=sysmem_draw \
+    ./wasm-ld --no-entry --stack-first -z stack-size=1048576 --export=sysmem_explain --export=sysmem_draw --export=sysmem_explore \
         --gc-sections --strip-all --compress-relocations "$@" page.o heap.o -o "$to"
 }
 link sysmem.wasm

@@ -50,7 +50,8 @@ export async function start() {
     const codes = { ArrowRight: 39, ArrowUp: 38, Home: 36, End: 35, Enter: 13, Tab: 9 };
     const key = async (name, control = false) => {
       const stroke = { key: name, code: name, windowsVirtualKeyCode: codes[name], modifiers: control ? 2 : 0 };
-      for (const type of ['rawKeyDown', 'keyUp']) await say('Input.dispatchKeyEvent', { type, ...stroke });
+      if (name === 'Enter' && !control) stroke.text = '\r'; // else it presses no button
+      for (const type of ['keyDown', 'keyUp']) await say('Input.dispatchKeyEvent', { type, ...stroke });
     };
     for (const domain of ['Runtime', 'Page', 'Network', 'Log']) await say(`${domain}.enable`);
     return { say, value, open, key };

@@ -1,6 +1,7 @@
 // The module alone, without a browser: what it imports, and that it answers as the program does.
 //   node module_test.mjs MODULE.wasm EXAMPLES [PROGRAM SCRIPTS]
-// PROGRAM is a `sysmem` that was built; each file of the folder SCRIPTS is explained and drawn by both.
+// PROGRAM is a `sysmem` that was built; each file of the folder SCRIPTS is explained and drawn by both, and each script of actors
+// whose outcomes EXAMPLES has is explored.
 import { readFileSync, readdirSync } from 'node:fs';
 import { spawnSync } from 'node:child_process';
 import { join } from 'node:path';
@@ -12,9 +13,11 @@ assert.deepEqual(WebAssembly.Module.imports(module), []);
 
 function ask(name, pages, script, ...more) {
   const core = new WebAssembly.Instance(module, {}).exports, room = 1 << 24;
-  const [from, out, words] = [script.length + 1, room, 24].map((n) => core.page_alloc(BigInt(n)) >>> 0);
+  const [from, out, words, list] = [script.length + 1, room, 24, 64].map((n) => core.page_alloc(BigInt(n)) >>> 0);
   new Uint8Array(core.memory.buffer, from, script.length).set(script);
-  const status = core[name](pages, from, BigInt(script.length), ...more, out, BigInt(room), words);
+  new BigUint64Array(core.memory.buffer, list, 8).set(more.flat().map(BigInt));
+  const passed = more.map((one) => (Array.isArray(one) ? list : one));
+  const status = core[name](pages, from, BigInt(script.length), ...passed, out, BigInt(room), words);
   const told = new DataView(core.memory.buffer, words, 24);
   const [bytes, line, behind] = [0, 8, 16].map((at) => Number(told.getBigUint64(at, true)));
   const answer = (at, length) => Buffer.from(core.memory.buffer, at, length).toString();
@@ -32,6 +35,9 @@ for (const name of readdirSync(examples).filter((f) => f.endsWith('.script'))) {
   count += 1;
 }
 assert.equal(ask('sysmem_explain', 0, Buffer.from('')).status, 2);
+assert.equal(ask('sysmem_explore', 0, Buffer.from(''), [0, 1, 0, 0, 0, 0]).status, 2);
+assert.deepEqual(ask('sysmem_explore', 16, Buffer.from('a join\na hum r\n'), [0, 1, 0, 0, 0, 0]),
+  { status: 0, line: 0, text: '', reason: 'bad line 2: no such word: hum\n' });
 assert.deepEqual(ask('sysmem_explain', 16, Buffer.from('a join\nhum\n')), { status: 3, line: 2, text: 'a join\n  joined\n', reason: 'a word is missing after hum' });
 
 // What the program and the module make of the script: its explanation, and the trees behind its last line.
@@ -47,5 +53,21 @@ function compare(name) {
   count += 1;
 }
 
+// What the program with these words, and the module with these numbers, find in the script of actors.
+const searches = [['', 0, 100000, 0, 0, 0, 0], ['--list --states 1000', 0, 1000, 0, 0, 0, 1], ['--outcome 2', 2, 100000, 0, 0, 0, 0],
+  ['--outcome 99', 99, 100000, 0, 0, 0, 0], ['--certify --list', 0, 1000000, 0, 0, 1, 1], ['--certify --states 9', 0, 9, 0, 0, 1, 0],
+  ['--patient --end', 0, 100000, 2, 1, 0, 0], ['--once --states 2000', 0, 2000, 1, 0, 0, 0]];
+function compare_searches(name) {
+  const script = readFileSync(join(examples, `${name}.actors`));
+  assert.equal(ask('sysmem_explore', 16, script, searches[0].slice(1)).text, readFileSync(join(examples, `${name}.outcomes`), 'utf8'));
+  for (const [words, ...numbers] of program ? searches : []) {
+    const native = spawnSync(program, ['explore', ...words.split(' ').filter(Boolean)], { input: script, maxBuffer: 1 << 28 });
+    assert.deepEqual(ask('sysmem_explore', 16, script, numbers),
+      { status: 0, line: 0, text: native.stdout.toString(), reason: native.stderr.toString() }, `${name}: ${words}`);
+  }
+  count += 1;
+}
+
+readdirSync(examples).filter((f) => f.endsWith('.outcomes')).forEach((f) => compare_searches(f.replace('.outcomes', '')));
 if (program) readdirSync(scripts).forEach(compare);
 console.log(`module: ${count} scripts, no import`);

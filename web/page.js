@@ -7,30 +7,34 @@ const MOST_LINK = 8192;
 // A script that is typed runs by itself once no key was pressed for so many milliseconds, if it has so many lines at most.
 const REST = 400;
 const MOST_TYPED = 2000;
-// `compiled` is the module; `script` the text of the last run, and `opened` the name of its file, if it has one; `steps` its
-// lines, as far as they were played, of which one is shown; `pictured` the event whose picture is.
-let compiled, examples = {}, script = '', opened = '', steps = [], at = 0, pages = 16, pictured, resting;
+// `compiled` is the module; `script` the text of the last run, and `opened` the name of the typed script's file, if it has one;
+// `steps` its lines, as far as they were played, of which one is shown; `pictured` the event whose picture is. `found` is the
+// exploration that is shown, if one is: then the last run is that of an outcome's schedule.
+let compiled, examples = {}, script = '', opened = '', steps = [], at = 0, pages = 16, pictured, resting, found;
 
 // ---- the core
 
 async function load() {
   const packed = $('module').textContent.trim();
   if (packed) {
-    return WebAssembly.compile(Uint8Array.from(atob(packed), (c) => c.charCodeAt(0)));
+    const stream = new Blob([Uint8Array.from(atob(packed), (c) => c.charCodeAt(0))]).stream();
+    return WebAssembly.compile(await new Response(stream.pipeThrough(new DecompressionStream('gzip'))).arrayBuffer());
   }
   return WebAssembly.compileStreaming(fetch('sysmem.wasm'));
 }
 
 // Makes one call in a new instance, so that nothing is left of the call before. Asks again where the text
-// needs more room than there was.
+// needs more room than there was. A list of numbers is passed by its place.
 function ask(name, text, ...more) {
   const bytes = new TextEncoder().encode(text);
   for (let room = Math.max(1 << 18, Math.min(1 << 24, 8 * bytes.length)); ;) {
     const core = new WebAssembly.Instance(compiled, {}).exports;
-    const [from, out, words] = [bytes.length + 1, room, 24].map((n) => core.page_alloc(BigInt(n)) >>> 0);
-    if (!from || !out || !words) return { status: 4, line: 0, text: '', reason: '' };
+    const [from, out, words, list] = [bytes.length + 1, room, 24, 64].map((n) => core.page_alloc(BigInt(n)) >>> 0);
+    if (!from || !out || !words || !list) return { status: 4, line: 0, text: '', reason: 'no memory\n' };
     new Uint8Array(core.memory.buffer, from, bytes.length).set(bytes);
-    const status = core[name](pages, from, BigInt(bytes.length), ...more, out, BigInt(room), words);
+    new BigUint64Array(core.memory.buffer, list, 8).set(more.flat().map(BigInt));
+    const passed = more.map((one) => (Array.isArray(one) ? list : one));
+    const status = core[name](pages, from, BigInt(bytes.length), ...passed, out, BigInt(room), words);
     const told = new DataView(core.memory.buffer, words, 24);
     const [length, line, behind] = [0, 8, 16].map((place) => Number(told.getBigUint64(place, true)));
     const answer = (at, size) => new TextDecoder().decode(new Uint8Array(core.memory.buffer, at, size));
@@ -46,6 +50,8 @@ const draw = (text, event, format) => ask('sysmem_draw', event === 0 ? '' : text
 
 const isRemark = (line) => line === '' || line.startsWith('#');
 const isView = (line) => line.startsWith('show ') || line.split(' ')[1] === 'poll';
+// Whether the script is one of actors: its file is named so, or it has a claim, or a line that waits since it is repeated.
+const isOfActors = (text) => opened.endsWith('.actors') || /^#!(?!\/)|^(\S+ collect \S+)\n\1$/m.test(text);
 
 // The program's words for a run that stopped.
 function stopped({ status, line, reason }) {
@@ -180,26 +186,28 @@ function tables(all) {
   all.fired.forEach(([tracker, event]) => row($('fired'), [tracker, `at event ${event}`]));
 }
 
+const halted = (why) => { $('said').textContent = `The core stopped: ${why}. The next run begins anew.`; };
+
 // Does what asks the core, or tells in one line why that stopped.
 function with_core(act) {
   try {
     act();
   } catch (error) {
-    $('said').textContent = `The core stopped: ${error.message}. The next run begins anew.`;
+    halted(error.message);
   }
 }
 
-// A sentence with a link to each line that it names.
-function linked(words) {
+// A sentence in which each number after this word is a link, which shows what has the number.
+function linked(words, word, go) {
   const p = document.createElement('p');
-  for (const part of words.split(/(\bline \d+\b)/)) {
-    const line = /^line (\d+)$/.exec(part)?.[1];
-    if (line === undefined || line > steps.length) {
+  for (const part of words.split(new RegExp(`(\\b${word} \\d+\\b)`))) {
+    const number = new RegExp(`^${word} (\\d+)$`).exec(part)?.[1];
+    if (number === undefined) {
       p.append(part);
       continue;
     }
-    const a = Object.assign(document.createElement('a'), { href: `#line=${line}`, textContent: part });
-    a.addEventListener('click', (e) => { e.preventDefault(); show(line - 1); });
+    const a = Object.assign(document.createElement('a'), { href: `#${word}=${number}`, textContent: part });
+    a.addEventListener('click', (e) => { e.preventDefault(); go(Number(number)); });
     p.append(a);
   }
   return p;
@@ -226,7 +234,7 @@ function show(k) {
   lines[at].setAttribute('aria-current', 'step');
   $('lines').scrollTop = lines[at].offsetTop - $('lines').offsetTop - 160;
   const [title, ...facts] = sentences(at);
-  $('said').replaceChildren(Object.assign(document.createElement('p'), { textContent: title }), ...facts.map(linked));
+  $('said').replaceChildren(Object.assign(document.createElement('p'), { textContent: title }), ...facts.map((fact) => linked(fact, 'line', (line) => show(line - 1))));
   with_core(() => {
     if (pictured !== step.event) tables(picture(step.event));
     pictured = step.event;
@@ -234,13 +242,17 @@ function show(k) {
   link();
 }
 
-// Puts the example and the line into the address, or the script itself where it is no example and short.
+// Puts the example, the line and the outcome into the address, or the script itself where it is no example and short.
 function link() {
-  const name = $('pick').value, text = $('script').value;
+  const name = $('pick').value, text = $('script').value, line = steps.length ? `&line=${at + 1}` : '';
   let hash = '';
-  if (examples[name] === text) hash = `example=${name}&line=${at + 1}`;
-  else if (text.length <= MOST_LINK) hash = `script=${encode(text)}&line=${at + 1}`;
+  if (examples[name] === text) hash = `example=${name}${line}`;
+  else if (text.length <= MOST_LINK) hash = `script=${encode(text)}${line}`;
   if (pages !== 16 && hash) hash += `&pages=${pages}`;
+  if (found && hash) {
+    const unusual = Object.entries(found.options).filter(([id, value]) => value !== USUAL[id]);
+    hash += `&outcome=${found.outcome ?? found.wanted}${unusual.map(([id, value]) => `&${id}=${value}`).join('')}`;
+  }
   try {
     history.replaceState(null, '', hash ? `#${hash}` : location.pathname);
   } catch {
@@ -305,23 +317,46 @@ function typed() {
   }, REST);
 }
 
-// Plays the script, and shows this line of it.
-function run(line = last) {
-  const begun = performance.now();
-  pages = $('pages').value = Math.min(1048576, Math.max(1, Math.trunc(Number($('pages').value)) || 16));
-  script = $('script').value.replace(/\n?$/, '\n');
+// The number that was typed, within these bounds.
+function bounded(id, most, usual) {
+  $(id).value = Math.min(most, Math.max(1, Math.trunc(Number($(id).value)) || usual));
+  return Number($(id).value);
+}
+
+// Ends what runs, and reads what is typed.
+function begin_run() {
   clearTimeout(resting);
+  [...asides.keys()].forEach(leave);
+  pages = bounded('pages', 1048576, 16);
+  found = undefined;
+  $('orders').hidden = true;
+  $('of').textContent = '';
+  return $('script').value.replace(/\n?$/, '\n');
+}
+
+const tell_time = (what, begun) => { $('time').textContent = `${opened && `${opened}: `}${what} in ${(performance.now() - begun).toFixed(0)} ms`; };
+
+// Plays this text, and shows one of its lines.
+function show_run(text, line, played = () => play(text)) {
+  script = text;
   drawn.clear();
   pictured = undefined;
   with_core(() => {
-    steps = play(script);
+    steps = played();
     $('lines').replaceChildren(...steps.map(listed));
     $('slide').max = Math.max(0, last());
     $('failure').disabled = !steps.some(fails);
     $('failure').textContent = $('failure').disabled ? 'Nothing fails' : 'Next failure';
     show(line());
-    $('time').textContent = `${opened && `${opened}: `}${steps.length} lines in ${(performance.now() - begun).toFixed(0)} ms`;
   });
+}
+
+// Plays the script, and shows this line of it; explores it, if it is one of actors.
+function run(line = last) {
+  if (isOfActors($('script').value)) return explore();
+  const begun = performance.now(), text = begin_run();
+  show_run(text, line);
+  tell_time(`${steps.length} lines`, begun);
 }
 
 // Puts the example that is chosen in the place of the script.
@@ -337,8 +372,10 @@ function run_address() {
   pick();
   if (wanted.has('script')) $('script').value = decode(wanted.get('script'));
   $('pages').value = wanted.get('pages') ?? 16;
-  const line = Math.trunc(Number(wanted.get('line')));
-  run(line >= 1 ? () => line - 1 : wanted.has('line') || wanted.has('script') ? last : first_failure);
+  for (const [id, usual] of Object.entries(USUAL)) $(id)[$(id).type === 'checkbox' ? 'checked' : 'value'] = Number(wanted.get(id) ?? usual);
+  const number = Math.trunc(Number(wanted.get('line')));
+  const line = number >= 1 ? () => number - 1 : wanted.has('line') || wanted.has('script') ? last : first_failure;
+  if (wanted.has('outcome')) explore(Math.max(0, Math.trunc(Number(wanted.get('outcome'))) || 0), line); else run(line);
 }
 
 function begin_controls() {
@@ -346,6 +383,9 @@ function begin_controls() {
   $('pick').addEventListener('change', () => { pick(); run(first_failure); });
   $('script').addEventListener('input', typed);
   $('run').addEventListener('click', () => run());
+  $('explore').addEventListener('click', () => explore());
+  $('stop').addEventListener('click', stop);
+  $('as-text').addEventListener('toggle', show_report);
   $('script').addEventListener('keydown', (e) => { if (e.key === 'Enter' && (e.ctrlKey || e.metaKey)) { e.preventDefault(); run(); } });
   $('slide').addEventListener('input', () => show(Number($('slide').value)));
   $('back').addEventListener('click', () => show(at - 1));

@@ -81,7 +81,7 @@ async function keyboard({ value, key }) {
   await value("$('run').focus(); $('run').click()");
   assert.equal(await value('document.activeElement.id'), 'run');
   await value("$('pick').focus()");
-  for (const name of ['pages', 'run', 'open', 'script', 'SUMMARY', 'lines', 'back', 'slide', 'on', 'failure', 'save', 'tree', 'SUMMARY']) {
+  for (const name of ['pages', 'run', 'open', 'script', 'explore', 'certify', 'SUMMARY', 'SUMMARY', 'lines', 'back', 'slide', 'on', 'failure', 'save', 'tree', 'SUMMARY']) {
     await key('Tab');
     const [reached, outline] = await value(`(() => { const e = document.activeElement, style = getComputedStyle(e); return [e.id || e.nodeName, style.outlineStyle + ' ' + style.outlineWidth]; })()`);
     assert.equal(reached, name);
@@ -116,6 +116,86 @@ async function controls({ value, open }) {
   assert.deepEqual(await value("[$('failure').disabled, $('failure').textContent]"), [true, 'Nothing fails']);
   await open(page);
   assert.match(await value("$('time').textContent"), /^50 lines in \d+ ms$/);
+}
+
+// Waits until no worker searches, and tells what the page then says.
+async function explored({ value }, texts = "[$('searched').textContent, $('of').textContent, [...$('outcomes').children].map((li) => li.innerText)]") {
+  for (let left = 1200; await value('asides.size') > 0; left--) {
+    assert.ok(left > 0, 'a search does not end');
+    await new Promise((go) => setTimeout(go, 50));
+  }
+  return value(texts);
+}
+
+// A script of actors is explored, a schedule of each outcome is shown, the report is that of the program.
+async function orders(tab) {
+  const { value, key, open } = tab, report = (name) => readFileSync(join(examples, `${name}.outcomes`), 'utf8');
+  await open(page, '#example=switch.actors&outcome=2');
+  assert.deepEqual(await explored(tab), ['2 outcomes', ': outcome 2 of 2: 17 of 100 runs; 40 calls in 6 turns',
+    ['1\nwide forback next: ends', '2\nwide forback next: fails, failed PoolFull wide']]);
+  assert.deepEqual(await value("[$('always').innerText, [...$('claims').children].map((p) => p.textContent), steps[0].text, $('said').children[2].textContent]"),
+    ['In each outcome\napp fro bac dis: comes to its end\nnarrow forfront shown: ends\nfree: 16',
+      ['line 3: never wide fails failed PoolFull: does not hold: outcome 2', 'line 4: never dis waits: holds', 'line 5: always free 16: holds'],
+      '# outcome 2 of 2: 17 of 100 runs; 40 calls in 6 turns', 'wide fails, failed PoolFull: no room for 4 buffers of 3 pages; 4 free']);
+  await value("$('as-text').open = true; new Promise((go) => setTimeout(go, 100))");
+  assert.equal(await explored(tab, "$('report').textContent"), report('switch'));
+  // Keys choose an outcome, and an address has it.
+  await value("$('outcomes').children[0].firstChild.focus()");
+  // Firefox without a window presses no button by a key.
+  if (kind === 'chromium') await key('Enter'); else await value('document.activeElement.click()');
+  assert.match((await explored(tab))[1], /^: outcome 1 of 2: /);
+  assert.deepEqual(await value("[...$('outcomes').children].map((li) => li.firstChild.getAttribute('aria-current'))"), ['true', 'false']);
+  await value('show(4)');
+  const hash = await value('location.hash');
+  assert.equal(hash, '#example=switch.actors&line=5&outcome=1');
+  await open(page, hash);
+  assert.match((await explored(tab))[1], /^: outcome 1 of 2: /);
+  assert.equal(await value("$('at').textContent"), '5');
+  // A claim leads to the outcome that breaks it.
+  await value("$('claims').querySelector('a').click()");
+  assert.match((await explored(tab))[1], /^: outcome 2 of 2: /);
+  // The certificate, and a limit that is met.
+  await open(page, '#example=camera.actors&outcome=6&certify=1');
+  assert.deepEqual((await explored(tab)).slice(0, 2), ['18 outcomes, certified', ': outcome 6 of 18: cam vanishes; 14 calls in 3 turns']);
+  await value("$('as-text').open = true; new Promise((go) => setTimeout(go, 100))");
+  assert.equal(await explored(tab, "$('report').textContent"), report('camera').replace('18 outcomes', '18 outcomes, certified'));
+  await value("$('certify').checked = false; $('states').value = 1000; $('explore').click()");
+  const [searched] = await explored(tab);
+  assert.match(searched, /^7 outcomes, not all explored: there are more than 1000 states\. A larger limit finds more\.$/);
+  assert.equal(await value("$('claims').firstChild.textContent"), 'line 4: never cam waits: is open: not all was explored');
+  // A script of calls takes its place.
+  await value(picked('camera'));
+  assert.deepEqual(await value("[$('orders').hidden, $('of').textContent, $('at').textContent, found === undefined]"), [true, '', '36', true]);
+}
+
+// A search is stopped, what is typed begins another one, a bad line is shown at its place, and refused memory is told.
+async function searches(tab) {
+  const { value, open } = tab;
+  const many = (clients) => `${[...clients].map((c) => `${c} join\n`).join('')}${[...clients].map((c) => `${c} open r\n${`${c} sync r\n`.repeat(9)}${c} release r\n`).join('')}#! never a waits\n`;
+  const begin = (script) => value(`$('script').value = ${JSON.stringify(script)}; $('explore').click()`);
+  await open(page);
+  await begin(many('abcdef'));
+  assert.equal(await value("$('stop').click(); $('searched').textContent"), 'Stopped: nothing was found yet.');
+  await begin(many('abcdef'));
+  for (let i = 0; i < 400 && !await value('found.list'); i++) await new Promise((go) => setTimeout(go, 50));
+  assert.match(await value("$('searched').textContent"), /^\d+ outcomes?, not all explored: there are more than 1000 states\. Searching up to 10000 states\.$/);
+  assert.match(await value("$('stop').click(); $('searched').textContent"), /^Stopped: \d+ outcomes?, not all explored: there are more than 1000 states\.$/);
+  assert.deepEqual(await value("[asides.size, $('stop').disabled, $('busy').hidden]"), [0, true, true]);
+  const typed = await value(`$('script').value = 'a join\\na open r\\na close r\\n#! never r fails\\n'; $('script').dispatchEvent(new Event('input')); new Promise((go) => setTimeout(go, REST + 200))`);
+  assert.equal(typed, undefined);
+  assert.deepEqual(await explored(tab), ['1 outcome', ': outcome 1 of 1: 100 of 100 runs; 2 calls in 1 turn', ['1\na: comes to its end\nr: fails, lost r\nfree: 16']]);
+  for (const [script, line, bad] of [['a join\na hum r\n#! never a waits\n', 2, 'no such word: hum'], ['#! never s fails\na join\n', 1, 'no line makes s'],
+    ['# none\n', 2, 'no client joins']]) {
+    await begin(script);
+    assert.equal((await explored(tab))[0].replace(/^bad line (\d+): .*/, '$1'), String(line), script);
+    assert.deepEqual(await value("[steps.length, steps.at(-1).bad.includes('bad line'), document.querySelectorAll('#lines li.bad').length]"), [line, true, 1], bad);
+  }
+  await open(small);
+  await begin(many('abcd'));
+  assert.match((await explored(tab))[0], /no memory/);
+  await value(picked('camera'));
+  assert.equal(await value("$('at').textContent"), '36');
+  await open(page);
 }
 
 // What is typed runs by itself, as far as the cursor, unless it is long.
@@ -213,19 +293,28 @@ async function sizes({ value }) {
   console.log(`10,002 lines, 1,001 nodes: a step ${Math.round(large)} ms`);
 }
 
-// Each control and the picture have a name, and texts stand out from what is behind them.
-async function names_and_contrasts({ say, value }) {
-  await value(`${picked('camera')} show(35)`);
+// Each control and the picture have a name.
+async function names_on({ say, value }) {
   const { nodes } = await say('Accessibility.getFullAXTree');
-  const roles = new Set(['button', 'slider', 'textbox', 'combobox', 'spinbutton', 'image', 'list', 'table']);
+  const roles = new Set(['button', 'checkbox', 'slider', 'textbox', 'combobox', 'spinbutton', 'image', 'list', 'table']);
   for (const n of nodes.filter((m) => roles.has(m.role?.value) && !m.ignored)) assert.ok(n.name?.value, `${n.role.value} has no name`);
-  assert.deepEqual(await value("[...document.querySelectorAll('[role=group]')].map((e) => !!e.getAttribute('aria-label'))"), [true, true, true]);
+  assert.deepEqual(await value("[...document.querySelectorAll('[role=group]')].map((e) => !!e.getAttribute('aria-label'))"), Array(5).fill(true));
+}
+
+// Names, with outcomes and without, and texts that stand out from what is behind them.
+async function names_and_contrasts(tab) {
+  const { say, value } = tab;
+  await value(picked('switch.actors'));
+  await explored(tab);
+  await names_on(tab);
+  await value(`${picked('camera')} show(35)`);
+  await names_on(tab);
   const contrasts = `(() => {
     const light = (c) => { const v = c.match(/\\d+/g).slice(0, 3).map((x) => { const s = x / 255; return s <= 0.03928 ? s / 12.92 : ((s + 0.055) / 1.055) ** 2.4; }); return 0.2126 * v[0] + 0.7152 * v[1] + 0.0722 * v[2]; };
     const behind = (e) => { for (; e; e = e.parentElement) { const c = getComputedStyle(e).backgroundColor; if (!/rgba\\(.*, 0\\)/.test(c) && c !== 'transparent') return c; } return 'rgb(255, 255, 255)'; };
     const between = (c, d) => { const [a, b] = [light(c), light(d)].sort((x, y) => y - x); return (a + 0.05) / (b + 0.05); };
     const all = (query) => [...document.querySelectorAll(query)];
-    const texts = all('h1, h2, p, label, button, select, input[type=number], textarea, li, li span, td, th, caption, summary').map((e) => between(getComputedStyle(e).color, behind(e)));
+    const texts = all('h1, h2, p, label, button, select, input[type=number], textarea, li, li span, td, th, caption, summary, #claims a, #outcomes span').map((e) => between(getComputedStyle(e).color, behind(e)));
     const borders = all('button, select, input[type=number], textarea, td, th, #lines, #tree').map((e) => between(getComputedStyle(e).borderTopColor, behind(e.parentElement)));
     // In the picture: words beside the last box drawn around them, borders of boxes beside what is behind the picture.
     const boxes = all('#tree svg rect').map((e) => [e.getBBox(), getComputedStyle(e)]);
@@ -242,6 +331,9 @@ async function names_and_contrasts({ say, value }) {
   await say('Emulation.setEmulatedMedia', { features: [] });
   await say('Emulation.setDeviceMetricsOverride', { width: 320, height: 700, deviceScaleFactor: 1, mobile: false });
   assert.ok(await value('document.documentElement.scrollWidth <= 320'), 'the page scrolls sideways at 320 pixels');
+  await value(picked('switch.actors'));
+  await explored(tab);
+  assert.ok(await value("!$('orders').hidden && document.documentElement.scrollWidth <= 320"), 'outcomes scroll sideways at 320 pixels');
   await say('Emulation.clearDeviceMetricsOverride');
 }
 
@@ -254,8 +346,8 @@ async function screenshots({ say, value }) {
   }
 }
 
-const tests = { chromium: [example_texts, display_failure, keyboard, links, controls, typing, wide_picture, sizes, names_and_contrasts, faults_told],
-  firefox: [example_texts, display_failure, keyboard, links, controls, typing, wide_picture, sizes, faults_told] }[kind];
+const tests = { chromium: [example_texts, display_failure, keyboard, links, controls, typing, orders, searches, wide_picture, sizes, names_and_contrasts, faults_told],
+  firefox: [example_texts, display_failure, keyboard, links, controls, typing, orders, searches, wide_picture, sizes, faults_told] }[kind];
 const begun = performance.now();
 const browser = await start();
 try {
@@ -273,7 +365,7 @@ try {
   }
   assert.deepEqual(browser.faults, []);
   // Firefox counts a font of its own, in a `data:` address.
-  assert.deepEqual(browser.requests.filter((url) => !/^(file|data):|^about:blank$/.test(url)), []);
+  assert.deepEqual(browser.requests.filter((url) => !/^(file|data|blob):|^about:blank$/.test(url)), []);
   console.log(`${kind}: all passed in ${Math.round(performance.now() - begun)} ms`);
 } finally {
   await browser.close();

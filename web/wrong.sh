@@ -6,7 +6,7 @@ cd "$(dirname "$0")"
 kit=$(dirname "$(rt doc)")
 out=$PWD/out
 . ../tools/static_library.sh
-libraries=$(all_of "script_explain script_draw")
+libraries=$(all_of "script_explain script_draw outcome_runs")
 [ $# -gt 0 ] || set -- page_calls/wrong/*.edit
 refused=0
 for edit in "$@"; do
